@@ -1,0 +1,3 @@
+-- FIPS-197, "Advanced Encryption Standard", of 26 November 2001: sections and equations are numbered as there.
+pub mod Field
+pub mod Chain
