@@ -4,3 +4,12 @@ pub mod Additive
 pub mod Product
 pub mod Affine
 pub mod Inverse
+pub mod Vectors
+pub mod States
+pub mod Layers
+pub mod LinearLayers
+pub mod MixColumns
+pub mod Undo
+pub mod InvCipher
+pub mod KeyWords
+pub mod RoundKeys
