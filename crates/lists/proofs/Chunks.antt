@@ -37,19 +37,15 @@ either zero (suc k) d = inl (omega arith)
 either (suc j) zero d = inr (omega arith)
 either (suc j) (suc k) d = ⊎-elim (λ w. inl (suc-le-suc w)) (λ w. inr (suc-le-suc w)) (either j k (λ e. d (ap suc e)))
 
--- ys was put at chunk k
-module _ (n k : ℕ) (xs ys : List ℕ) (h : k * n + n ≤ length xs) (l : length ys ≡ n) where
-  abbrev pub putChunk : List ℕ
-  putChunk = take (k * n) xs ++ (ys ++ drop (k * n + n - k * n) (drop (k * n) xs))
-
-  pub chunk-put : chunk n k putChunk ≡ ys
+-- ys was put at chunk k, from a to e
+module _ (n k a e : ℕ) (xs ys : List ℕ) (pa : a ≡ k * n) (pe : e ≡ a + n) (h : e ≤ length xs) (l : length ys ≡ n) where
+  pub put-chunk : chunk n k (take a xs ++ (ys ++ drop (e - a) (drop a xs))) ≡ ys
   unfolding chunk
-  chunk-put = put-same (k * n) (k * n + n) xs ys (omega arith) h (omega arith) n (omega arith)
+  put-chunk = rw (← pa) (put-same a e xs ys (omega arith) h (omega arith) n (omega arith))
 
-  pub chunk-other : (j : ℕ) → (j ≡ k → ⊥) → chunk n j putChunk ≡ chunk n j xs
+  pub put-other : (j : ℕ) → (j ≡ k → ⊥) → chunk n j (take a xs ++ (ys ++ drop (e - a) (drop a xs))) ≡ chunk n j xs
   unfolding chunk
-  chunk-other j d =
-      ⊎-elim
-      (λ (w : j < k). put-before (k * n) (k * n + n) xs ys (omega arith) h (omega arith) (j * n) n (apart n j k w))
-      (λ (w : k < j). put-after (k * n) (k * n + n) xs ys (omega arith) h (omega arith) (j * n) n (apart n k j w))
+  put-other j d =
+      ⊎-elim (λ (w : j < k). put-before a e xs ys (omega arith) h (omega arith) (j * n) n (omega (arith, apart n j k w)))
+      (λ (w : k < j). put-after a e xs ys (omega arith) h (omega arith) (j * n) n (omega (arith, apart n k j w)))
       (either j k d)

@@ -3,3 +3,7 @@ pub mod Filling
 pub mod Puts
 pub mod Chunks
 pub mod Chunked
+pub mod Joined
+pub mod Parts
+pub mod Putting
+pub mod MapChunks

@@ -12,6 +12,11 @@ tab (suc n) f = f 0 ∷ tab n (λ i. f (suc i))
 unfoldable pub chunk : ℕ → ℕ → List ℕ → List ℕ
 chunk m k xs = take m (drop (k * m) xs)
 
+-- f 0, f 1, .. f (k - 1), one after the other
+unfoldable pub joined : ℕ → (ℕ → List ℕ) → List ℕ
+joined zero f = []
+joined (suc k) f = f 0 ++ joined k (λ i. f (suc i))
+
 -- xs with chunk i of m elements changed by f i, for its first k chunks, and the rest as it was
 unfoldable pub mapChunks : ℕ → (ℕ → List ℕ → List ℕ) → ℕ → List ℕ → List ℕ
 mapChunks m f zero xs = xs

@@ -1,16 +1,16 @@
 -- Share tables and alpha buffers as document 01 lays them out, opening, consistency, and alphas that cancel. Assumes nothing.
 use Prim.Native.Nat.{ℕ, _+_, _*_, _/_, _%_, _<_}
 use mathlib.Core.Path.{_≡_}
-use mathlib.Core.List.{List, _++_}
+use mathlib.Core.List.{List}
 use lib.ListN.{getD}
 use Rattle.fips197.specs.Field.{_⊕_}
 use Rattle.fips197.specs.State.{_⊞_}
-use Rattle.lists.specs.Lists.{chunk}
+use Rattle.lists.specs.Lists.{chunk, joined}
 
 -- a share table of n positions is six parts of n bytes: party 0 si, party 0 sii, party 1 si, party 1 sii, party 2 si, party 2 sii.
 -- The table whose parts are f 0 .. f 5
-unfoldable pub sixParts : (ℕ → List ℕ) → List ℕ
-sixParts f = f 0 ++ (f 1 ++ (f 2 ++ (f 3 ++ (f 4 ++ f 5))))
+abbrev pub sixParts : (ℕ → List ℕ) → List ℕ
+sixParts f = joined 6 f
 
 -- party p's si and sii part of a table of n positions
 abbrev pub siPart : ℕ → ℕ → List ℕ → List ℕ

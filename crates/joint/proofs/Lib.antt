@@ -1,0 +1,2 @@
+pub mod Exchanging
+pub mod JointProduct

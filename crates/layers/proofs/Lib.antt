@@ -1,0 +1,10 @@
+pub mod Tags
+pub mod MixedBytes
+pub mod Rows
+pub mod Lengths
+pub mod Numbers
+pub mod EachBlock
+pub mod BlockBytes
+pub mod LinearLayers
+pub mod Undone
+pub mod KeyAdded
