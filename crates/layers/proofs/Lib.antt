@@ -8,3 +8,4 @@ pub mod BlockBytes
 pub mod LinearLayers
 pub mod Undone
 pub mod KeyAdded
+pub mod EachPart

@@ -7,3 +7,4 @@ pub mod Joined
 pub mod Parts
 pub mod Putting
 pub mod MapChunks
+pub mod ChunkOfChunk

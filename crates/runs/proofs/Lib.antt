@@ -1,0 +1,16 @@
+pub mod Local
+pub mod Run
+pub mod Rounds
+pub mod Alone
+pub mod Layers
+pub mod SBoxes
+pub mod RoundKeys
+pub mod Inverting
+pub mod CipherRun
+pub mod RoundsDown
+pub mod InverseRun
+pub mod ByteOrder
+pub mod BlockRun
+pub mod CipherOpens
+pub mod InverseOpens
+pub mod InverseOfCipher
