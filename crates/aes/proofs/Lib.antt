@@ -1,7 +1,3 @@
 pub mod RunFits
-pub mod AlphaParts
-pub mod PartMaps
-pub mod Alphas
-pub mod Tags
-pub mod Stepping
+pub mod RunSteps
 pub mod Rounds

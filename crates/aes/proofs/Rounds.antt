@@ -1,53 +1,14 @@
 -- The rounds of a run from what their steps leave. Assumes nothing.
-use Prim.Native.Nat.{ℕ, zero, suc, _+_, _-_, _*_}
+use Prim.Native.Nat.{ℕ, zero, suc, _+_, _-_}
 use native.Mathlib.Numerals.{add-one}
-use mathlib.Core.Path.{_≡_, refl, sym, ap, ap₂, _∙_}
-use mathlib.Core.List.{List, map}
-use lib.ListN.{length}
-use Rattle.fips197.specs.Field.{affine, invAffine, affineConstant}
-use Rattle.fips197.specs.State.{_⊞_, shiftRows, invShiftRows}
-use Rattle.lists.specs.Lists.{chunk}
-use Rattle.lists.proofs.Joined.{joined-cong, chunk-map}
-use Rattle.lists.proofs.Parts.{map-joined}
-use Rattle.rep3.specs.Tables.{sixParts}
-use Rattle.rep3.proofs.Opening.{length-share}
+use mathlib.Core.Path.{_≡_, refl, ap, ap₂, _∙_}
+use mathlib.Core.List.{List}
+use Rattle.fips197.specs.State.{shiftRows, invShiftRows}
 use Rattle.layers.specs.Layers.{eachBlock}
-use Rattle.chida.specs.Inversion.{inversionOf}
-use Rattle.chida.proofs.OpensInversion.{length-inversionOf}
-use Rattle.aes.specs.declared.tables.Layer.{Layer}
-use Rattle.aes.specs.declared.tables.Layer.the-variants.{ShiftRows, InvShiftRows, MixColumns, InvMixColumns, Affine, InvAffine}
-use Rattle.aes.specs.Runs.{constantPart, onParts, addConstant, subBytesOf, invSubBytesOf, addKeyOf, alphasOf, cipherRounds, cipherOf, inverseRounds, inverseOf}
-use Rattle.aes.specs.Steps.{layerOf, cipherRound, inverseRound}
-
--- a layer on a table of n positions, as on_parts leaves it
-abbrev onTable : ℕ → Layer → List ℕ → List ℕ
-onTable n layer t = sixParts (λ k. layerOf layer k (chunk n k t))
-
--- ---- S-boxes
-
-affine-is : (n : ℕ) (u : List ℕ) → length u ≡ 6 * n → onTable n Affine u ≡ addConstant n affineConstant (map affine u)
-unfolding addConstant
-affine-is n u l =
-    joined-cong 6 _ _ (λ k h. ap₂ (λ (x : List ℕ) (m : ℕ). x ⊞ constantPart m affineConstant k) (sym (chunk-map affine n k u)) (length-share n u l k h))
-
-inv-affine-is : (n : ℕ) (u : List ℕ) → length u ≡ 6 * n → onTable n InvAffine u ≡ map invAffine (addConstant n affineConstant u)
-unfolding addConstant
-inv-affine-is n u l =
-    joined-cong 6 _ _ (λ k h. ap (λ (m : ℕ). map invAffine (chunk n k u ⊞ constantPart m affineConstant k)) (length-share n u l k h))
-    ∙ sym (map-joined invAffine 6 (λ k. chunk n k u ⊞ constantPart n affineConstant k))
-
-module _ (n : ℕ) (α : ℕ → List ℕ) (t s1 s2 out : List ℕ) where
-  pub sub-shift-is : s1 ≡ inversionOf n α t → s2 ≡ onTable n Affine s1 → out ≡ onTable n ShiftRows s2
-      → out ≡ onParts n (eachBlock shiftRows) (subBytesOf n α t)
-  unfolding onParts subBytesOf
-  sub-shift-is p q r =
-      r ∙ ap (onTable n ShiftRows) (q ∙ ap (onTable n Affine) p ∙ affine-is n (inversionOf n α t) (length-inversionOf n α t))
-
-  pub shift-sub-is : length s1 ≡ 6 * n → s1 ≡ onTable n InvShiftRows t → s2 ≡ onTable n InvAffine s1 → out ≡ inversionOf n α s2
-      → out ≡ invSubBytesOf n α (onParts n (eachBlock invShiftRows) t)
-  unfolding onParts invSubBytesOf
-  shift-sub-is l p q r =
-      r ∙ ap (inversionOf n α) (q ∙ inv-affine-is n s1 l ∙ ap (λ (x : List ℕ). map invAffine (addConstant n affineConstant x)) p)
+use Rattle.tables.specs.declared.parts.Layer.the-variants.{MixColumns, InvMixColumns}
+use Rattle.tables.specs.Tables.{onTable}
+use Rattle.aes.specs.Runs.{onParts, subBytesOf, invSubBytesOf, addKeyOf, alphasOf, cipherRounds, cipherOf, inverseRounds, inverseOf}
+use Rattle.aes.specs.Steps.{cipherRound, inverseRound}
 
 -- ---- rounds, as many as there are turns
 

@@ -1,63 +1,38 @@
 // The cipher and the inverse: FIPS-197's Figures 5 and 12 on share tables, with a loop over the rounds of the variant. Everything is
 // counted first, and nothing is written before that has passed; a step's refusal goes up at once.
 ghost use mathlib.Core.Path.{_≡_};
-ghost use Prim.Native.Nat.{_+_, _-_, _/_, _<_};
+ghost use Prim.Native.Nat.{_-_, _/_, _<_};
 ghost use lib.ListN.{length};
-ghost use Rattle.fips197.specs.State.{shiftRows, invShiftRows};
-ghost use Rattle.layers.specs.Layers.{eachBlock};
 ghost use Rattle.rep3.specs.Answers.{numberOf, whenDone};
 ghost use Rattle.needs.specs.Needs.{roundsOf, runNumber};
-ghost use Rattle.aes.specs.Runs.{onParts, subBytesOf, invSubBytesOf, alphasOf, cipherRounds, cipherOf, inverseRounds, inverseOf};
-ghost use Rattle.aes.specs.Steps.{AlphasFit, RunFits, cipherRound, inverseRound};
-use crate::tables::Layer;
-use crate::tables::add_key;
-use crate::tables::invert;
-use crate::tables::on_parts;
+ghost use Rattle.aes.specs.Runs.{cipherRounds, cipherOf, inverseRounds, inverseOf};
+ghost use Rattle.aes.specs.Steps.{RunFits, roundsIn, cipherRound, inverseRound};
 use needs::CIPHER;
 use needs::INVERSE;
 use needs::rounds_of;
 use needs::run_check;
 use rep3::Answer;
-
-// SubBytes, as invert, affine without constant, shared 0x63, and then ShiftRows.
-fn sub_and_shift(state: &mut [u8], alphas: &[u8], n: usize, rounds: usize, r: usize) -> Answer
-    requires { ⌜ AlphasFit n rounds r (length (now state)) (length (now alphas)) ⌝ }
-    ensures { λ a. ⌜ (numberOf a ≡ 0)
-        × (now (state .exit) ≡ onParts n (eachBlock shiftRows) (subBytesOf n (alphasOf n rounds (now (alphas .entry)) r) (now (state .entry)))) ⌝ }
-{
-    let inverted = invert(state, alphas, n, rounds, r);
-    let Answer::Done = inverted else {
-        return inverted;
-    };
-    let substituted = on_parts(state, Layer::Affine, n);
-    let Answer::Done = substituted else {
-        return substituted;
-    };
-    on_parts(state, Layer::ShiftRows, n)
-}
+use tables::Layer;
+use tables::add_key;
+use tables::on_table;
+use tables::shift_and_sub;
+use tables::sub_and_shift;
 
 // Round r + 1 of the cipher, which is not the last.
-fn cipher_round(
-    state: &mut [u8],
-    keys: &[u8],
-    alphas: &[u8],
-    n: usize,
-    rounds: usize,
-    r: usize,
-) -> Answer
-    requires { ⌜ RunFits n rounds (length (now state)) (length (now keys)) (length (now alphas)) × (r < rounds) ⌝ }
+fn cipher_round(state: &mut [u8], keys: &[u8], alphas: &[u8], n: usize, r: usize) -> Answer
+    requires { ⌜ RunFits n (roundsIn (now keys)) (length (now state)) (length (now keys)) (length (now alphas)) × (r < roundsIn (now keys)) ⌝ }
     ensures { λ a. ⌜ (numberOf a ≡ 0)
-        × (now (state .exit) ≡ cipherRound n rounds (now (keys .entry)) (now (alphas .entry)) r (now (state .entry))) ⌝ }
+        × (now (state .exit) ≡ cipherRound n (roundsIn (now (keys .entry))) (now (keys .entry)) (now (alphas .entry)) r (now (state .entry))) ⌝ }
 {
-    let shifted = sub_and_shift(state, alphas, n, rounds, r);
+    let shifted = sub_and_shift(state, alphas, r * (4 * n));
     let Answer::Done = shifted else {
         return shifted;
     };
-    let mixed = on_parts(state, Layer::MixColumns, n);
+    let mixed = on_table(state, Layer::MixColumns);
     let Answer::Done = mixed else {
         return mixed;
     };
-    add_key(state, keys, n, rounds, r + 1)
+    add_key(state, keys, r + 1)
 }
 
 // AddRoundKey, and the rounds before the last.
@@ -66,13 +41,13 @@ fn cipher_rounds(state: &mut [u8], keys: &[u8], alphas: &[u8], n: usize, rounds:
     ensures { λ a. ⌜ (numberOf a ≡ 0)
         × (now (state .exit) ≡ cipherRounds n rounds (now (keys .entry)) (now (alphas .entry)) (rounds - 1) (now (state .entry))) ⌝ }
 {
-    let keyed = add_key(state, keys, n, rounds, 0);
+    let keyed = add_key(state, keys, 0);
     let Answer::Done = keyed else {
         return keyed;
     };
     let last = rounds - 1;
     for r in 0..last {
-        let step = cipher_round(state, keys, alphas, n, rounds, r);
+        let step = cipher_round(state, keys, alphas, n, r);
         let Answer::Done = step else {
             return step;
         };
@@ -90,11 +65,12 @@ fn cipher_run(state: &mut [u8], keys: &[u8], alphas: &[u8], n: usize, rounds: us
     let Answer::Done = begun else {
         return begun;
     };
-    let shifted = sub_and_shift(state, alphas, n, rounds, rounds - 1);
+    let from = (rounds - 1) * (4 * n);
+    let shifted = sub_and_shift(state, alphas, from);
     let Answer::Done = shifted else {
         return shifted;
     };
-    add_key(state, keys, n, rounds, rounds)
+    add_key(state, keys, rounds)
 }
 
 // The cipher, in place, on a state table and with the round keys of a key table.
@@ -110,23 +86,6 @@ pub fn cipher(variant: u32, state: &mut [u8], keys: &[u8], alphas: &[u8]) -> Ans
     cipher_run(state, keys, alphas, n, rounds_of(variant))
 }
 
-// InvShiftRows, and then the inverse of SubBytes: shared 0x63, inverse affine, invert.
-fn shift_and_sub(state: &mut [u8], alphas: &[u8], n: usize, rounds: usize, r: usize) -> Answer
-    requires { ⌜ AlphasFit n rounds r (length (now state)) (length (now alphas)) ⌝ }
-    ensures { λ a. ⌜ (numberOf a ≡ 0)
-        × (now (state .exit) ≡ invSubBytesOf n (alphasOf n rounds (now (alphas .entry)) r) (onParts n (eachBlock invShiftRows) (now (state .entry)))) ⌝ }
-{
-    let shifted = on_parts(state, Layer::InvShiftRows, n);
-    let Answer::Done = shifted else {
-        return shifted;
-    };
-    let mapped = on_parts(state, Layer::InvAffine, n);
-    let Answer::Done = mapped else {
-        return mapped;
-    };
-    invert(state, alphas, n, rounds, r)
-}
-
 // The round after r others of the inverse, which is not the last.
 fn inverse_round(
     state: &mut [u8],
@@ -140,15 +99,15 @@ fn inverse_round(
     ensures { λ a. ⌜ (numberOf a ≡ 0)
         × (now (state .exit) ≡ inverseRound n rounds (now (keys .entry)) (now (alphas .entry)) r (now (state .entry))) ⌝ }
 {
-    let substituted = shift_and_sub(state, alphas, n, rounds, r);
+    let substituted = shift_and_sub(state, alphas, r * (4 * n));
     let Answer::Done = substituted else {
         return substituted;
     };
-    let keyed = add_key(state, keys, n, rounds, rounds - 1 - r);
+    let keyed = add_key(state, keys, rounds - 1 - r);
     let Answer::Done = keyed else {
         return keyed;
     };
-    on_parts(state, Layer::InvMixColumns, n)
+    on_table(state, Layer::InvMixColumns)
 }
 
 // AddRoundKey with the last round key, and the rounds before the last.
@@ -157,12 +116,12 @@ fn inverse_rounds(state: &mut [u8], keys: &[u8], alphas: &[u8], n: usize, rounds
     ensures { λ a. ⌜ (numberOf a ≡ 0)
         × (now (state .exit) ≡ inverseRounds n rounds (now (keys .entry)) (now (alphas .entry)) (rounds - 1) (now (state .entry))) ⌝ }
 {
-    let keyed = add_key(state, keys, n, rounds, rounds);
+    let keyed = add_key(state, keys, rounds);
     let Answer::Done = keyed else {
         return keyed;
     };
-    let last = rounds - 1;
-    for r in 0..last {
+    let middle = rounds - 1;
+    for r in 0..middle {
         let step = inverse_round(state, keys, alphas, n, rounds, r);
         let Answer::Done = step else {
             return step;
@@ -181,11 +140,12 @@ fn inverse_run(state: &mut [u8], keys: &[u8], alphas: &[u8], n: usize, rounds: u
     let Answer::Done = begun else {
         return begun;
     };
-    let substituted = shift_and_sub(state, alphas, n, rounds, rounds - 1);
+    let from = (rounds - 1) * (4 * n);
+    let substituted = shift_and_sub(state, alphas, from);
     let Answer::Done = substituted else {
         return substituted;
     };
-    add_key(state, keys, n, rounds, 0)
+    add_key(state, keys, 0)
 }
 
 // The inverse, in place: what the cipher made of a state table back again.

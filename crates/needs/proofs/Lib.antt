@@ -1,3 +1,3 @@
 pub mod Numbers
-pub mod SubChunks
+pub mod KeyParts
 pub mod NeededAnswers

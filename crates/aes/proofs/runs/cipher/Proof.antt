@@ -3,7 +3,7 @@ use mathlib.Core.Path.{refl, sym, _∙_}
 use Prim.Native.Nat.{_-_}
 use Rattle.rep3.proofs.Refusals.{done, refused}
 use Rattle.aes.proofs.RunFits.{run-fits}
-use Rattle.aes.proofs.Stepping.{done-is}
+use Rattle.tables.proofs.Stepping.{done-is}
 use borrow.Author.Needs.{needs}
 use Rattle.aes.proofs.runs.cipher.Statement.{statement}
 use Rattle.aes.proofs.runs.cipher.Tie as tie

@@ -6,15 +6,16 @@ use borrow.Author.Needs.{needs}
 use lib.ListN.{length}
 use Rattle.rep3.proofs.Refusals.{refusal}
 use Rattle.aes.proofs.Rounds.{turns, turns-none, turns-more, inverse-turned}
+use Rattle.aes.proofs.RunSteps.{key-done}
 use Rattle.aes.specs.Steps.{RunFits, inverseRound}
 use Rattle.aes.proofs.runs.inverse_rounds.Statement.{statement}
 use Rattle.aes.proofs.runs.inverse_rounds.Tie as tie
 
 abbrev Inv-loop : tie.InvT-loop
-Inv-loop state₀ keys alphas n rounds last r₀ state r = RunFits n rounds (length state) (length keys) (length alphas) × (r ≤ last) × (state ≡ turns (inverseRound n rounds keys alphas) r state₀)
+Inv-loop state₀ keys alphas n rounds middle r₀ state r = RunFits n rounds (length state) (length keys) (length alphas) × (r ≤ middle) × (state ≡ turns (inverseRound n rounds keys alphas) r state₀)
 
 abbrev μ-loop : tie.MeasureT-loop
-μ-loop state₀ keys alphas n rounds last r₀ state r = last - r
+μ-loop state₀ keys alphas n rounds middle r₀ state r = middle - r
 
 add-key-requires : tie.Need-add-key-requires Inv-loop μ-loop
 add-key-requires c κs = search needs
@@ -23,13 +24,13 @@ enum-told : tie.Need-enum-told Inv-loop μ-loop
 enum-told c = c .match .keys1
 
 same-length : tie.Need-same-length Inv-loop μ-loop
-same-length c = let z = c .before .before .before .add-key .ensures .0 in let p = refusal (c .before .before .before .add-key .result) (c .match .keys2) in absurd (omega arith)
+same-length c = let z = (key-done _ _ (c .before .before .before .before .before .before .before .before .args .state .now) (c .before .before .before .before .before .before .before .before .args .keys .now) (c .before .before .before .before .before .before .before .before .args .alphas .now) (c .before .before .before .before .before .before .before .before .pre) (c .before .before .before .add-key .result) _ _ (omega arith) (c .before .before .before .add-key .ensures .0) (c .before .before .before .add-key .ensures .1)) .0 in let p = refusal (c .before .before .before .add-key .result) (c .match .keys2) in absurd (omega arith)
 
 returns : tie.Need-returns Inv-loop μ-loop
-returns c = let z = c .before .before .before .add-key .ensures .0 in let p = refusal (c .before .before .before .add-key .result) (c .match .keys2) in absurd (omega arith)
+returns c = let z = (key-done _ _ (c .before .before .before .before .before .before .before .before .args .state .now) (c .before .before .before .before .before .before .before .before .args .keys .now) (c .before .before .before .before .before .before .before .before .args .alphas .now) (c .before .before .before .before .before .before .before .before .pre) (c .before .before .before .add-key .result) _ _ (omega arith) (c .before .before .before .add-key .ensures .0) (c .before .before .before .add-key .ensures .1)) .0 in let p = refusal (c .before .before .before .add-key .result) (c .match .keys2) in absurd (omega arith)
 
-sub-last : tie.Need-sub-last Inv-loop μ-loop
-sub-last c = omega (arith, c .before .before .before .before .before .before .before .before .before .pre .first)
+sub-middle : tie.Need-sub-middle Inv-loop μ-loop
+sub-middle c = omega (arith, c .before .before .before .before .before .before .before .before .before .pre .first)
 
 loop-holds : tie.Need-loop-holds Inv-loop μ-loop
 loop-holds c = (rw (c .before .before .before .before .add-key .kept .0) (c .before .before .before .before .before .before .before .before .before .pre), omega arith, turns-none _ _)
@@ -62,7 +63,7 @@ same-length-3 : tie.Need-same-length-3 Inv-loop μ-loop
 same-length-3 c = c .before .loop .inv .0 .table .long ∙ sym (c .before .before .before .before .before .before .before .before .before .before .before .pre .table .long)
 
 returns-3 : tie.Need-returns-3 Inv-loop μ-loop
-returns-3 c = (refl, inverse-turned _ _ _ _ _ _ _ _ _ (omega arith) (c .before .before .before .before .before .before .add-key .ensures .1) (c .before .loop .inv .2))
+returns-3 c = (refl, inverse-turned _ _ _ _ _ _ _ _ _ (omega arith) ((key-done _ _ (c .before .before .before .before .before .before .before .before .before .before .before .args .state .now) (c .before .before .before .before .before .before .before .before .before .before .before .args .keys .now) (c .before .before .before .before .before .before .before .before .before .before .before .args .alphas .now) (c .before .before .before .before .before .before .before .before .before .before .before .pre) (c .before .before .before .before .before .before .add-key .result) _ _ (omega arith) (c .before .before .before .before .before .before .add-key .ensures .0) (c .before .before .before .before .before .before .add-key .ensures .1)) .1) (c .before .loop .inv .2))
 
 pub inverse-rounds-spec : {M : Type 1} → statement M
 inverse-rounds-spec =
@@ -74,7 +75,7 @@ inverse-rounds-spec =
     enum-told
     same-length
     returns
-    sub-last
+    sub-middle
     loop-holds
     inverse-round-requires
     enum-told-2

@@ -6,7 +6,7 @@ use lib.ListN.{length}
 use Rattle.rep3.proofs.Refusals.{done, refused}
 use Rattle.needs.specs.Keys.{halfOf}
 use Rattle.needs.proofs.Numbers.{HalfFits, half-fits, index-most, rounds-most}
-use Rattle.needs.proofs.SubChunks.{key-part, key-room}
+use Rattle.needs.proofs.KeyParts.{key-part, key-room}
 use borrow.Author.Needs.{needs}
 use Rattle.needs.proofs.keys.round_key_half.Statement.{statement}
 use Rattle.needs.proofs.keys.round_key_half.Tie as tie
