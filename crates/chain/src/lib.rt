@@ -1,5 +1,7 @@
 // The chain of inversion in GF(2^8) on a small share table, line by line as Maestro's gf8_inv_layer, whose names for the powers it keeps.
 // Nothing is lent for scratch: five tables of some positions stand on the stack, 8 KiB.
+#![tactic(auto)]
+
 ghost use Rattle.std.specs.Prelude.{◌≡◌, ◌+◌, ◌*◌, ◌/◌, map, length};
 ghost use Rattle.fips197.specs.Field as field;
 ghost use Rattle.rep3.specs.Answers.{number_of, when_done};

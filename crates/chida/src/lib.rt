@@ -1,5 +1,7 @@
 // Chida et al.'s multiplication on replicated shares, opening, and inversion in GF(2^8): the port of Maestro's chida/online.rs. Inversion
 // goes over a table some positions at a time, so that nothing is lent for scratch and the stack holds 11 KiB at the most.
+#![tactic(auto)]
+
 ghost use Rattle.std.specs.Prelude.{◌≡◌, ◌+◌, ◌*◌, ◌/◌, ◌≤◌, ◌<◌, length};
 ghost use Rattle.lists.specs.Lists.{chunk};
 ghost use Rattle.rep3.specs.Answers.{number_of, when_done};

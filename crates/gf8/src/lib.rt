@@ -1,5 +1,7 @@
 // The field GF(2^8) of FIPS-197 on bytes: the port of Maestro's share/gf8.rs. Every function takes any bytes and promises the value
 // that the standard's definition gives. Operands are secret, so nothing branches on them.
+#![tactic(auto)]
+
 mod affine_table;
 mod inv_affine_table;
 mod square_table;

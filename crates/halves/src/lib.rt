@@ -1,6 +1,8 @@
 // One party's halves of a multiplication on replicated shares, and of an opening: mul_no_sync and output_round of Maestro's
 // chida/online.rs, with the messages in the host's hands. Each operation counts the lengths it is given and refuses before it writes; a
 // refusal changes no lent byte.
+#![tactic(auto)]
+
 ghost use Rattle.std.specs.Prelude.{◌≡◌, length};
 ghost use Rattle.rep3.specs.Answers.{number_of, when_done};
 ghost use Rattle.halves.specs.Product.{product_at, first_half, open_of, mul_number, take_number, open_number};

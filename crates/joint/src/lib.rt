@@ -1,5 +1,7 @@
 // The joint product: three parties multiply two share tables, each by the very halves that are exported, and each reads its message off
 // the outbox of the next party.
+#![tactic(auto)]
+
 ghost use Rattle.std.specs.Prelude.{◌≡◌, ◌/◌, length};
 ghost use Rattle.rep3.specs.Answers.{number_of, when_done};
 ghost use Rattle.rep3.specs.Tables.{si_part, sii_part, six_parts, share_of};

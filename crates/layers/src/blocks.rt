@@ -9,7 +9,7 @@ ghost use Rattle.layers.specs.Layers.{block_bytes, each_block, map_of};
 use super::BLOCK_BYTES;
 
 // The layers. All know which one is at work, so that a branch on it tells nothing.
-#[derive(Drop)]
+#[derive(Clone, Copy)]
 pub enum Layer {
     ShiftRows,
     InvShiftRows,

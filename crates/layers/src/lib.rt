@@ -1,6 +1,8 @@
 // The layers of AES on a lent part of a share table, and the order of a state table's bytes: the port of the layers of Maestro's aes/mod.rs.
 // A part holds whole blocks of sixteen bytes by rows, and each block is changed as FIPS-197 says; a length that is not refused is changed
 // whole, and one that is refused not at all. Bytes are secret: nothing branches on them.
+#![tactic(auto)]
+
 mod blocks;
 
 ghost use Rattle.std.specs.Prelude.{◌≡◌, length};

@@ -1,5 +1,7 @@
 // Variants, the alphas that each party needs, the refusals of a run and of the need question, each in document 01's order, and one round
 // key half of a key table.
+#![tactic(auto)]
+
 mod keys;
 
 ghost use Rattle.std.specs.Prelude.{◌≡◌, ◌≤◌};
@@ -37,7 +39,7 @@ const SCHEDULE_NEED_128: usize = 160;
 const SCHEDULE_NEED_256: usize = 208;
 
 // The answer to the need question: the alphas of each party, or the refusal.
-#[derive(Drop)]
+#[derive(Clone, Copy)]
 pub enum Needed {
     Count(u64),
     Refused(Answer),

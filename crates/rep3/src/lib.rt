@@ -1,11 +1,13 @@
 // Replicated shares among three parties: what every step answers and its number, a party's share of one byte, the share of a constant,
 // and a message as a part of a neighbour's outbox. The definitions of share tables, opening and consistency stand in specs/Tables.antt.
+#![tactic(auto)]
+
 ghost use Rattle.std.specs.Prelude.{◌≡◌};
 ghost use Rattle.rep3.specs.Answers.{number_of};
 ghost use Rattle.rep3.specs.Shares.{constant_of, part_of, message_of};
 
 // What a step answers: done, or why it refused. The variants stand in the order of their numbers.
-#[derive(Drop)]
+#[derive(Clone, Copy)]
 pub enum Answer {
     Done,
     Length,
@@ -44,20 +46,21 @@ pub fn number(answer: Answer) -> u32
 }
 
 // One party's share of a byte s0 + s1 + s2: party i holds s_i and s_(i+1 mod 3).
-#[derive(Drop)]
+#[derive(Clone, Copy)]
 pub struct RssShare {
     pub si: u8,
     pub sii: u8,
 }
 
 // The share of a constant, or the refusal.
-#[derive(Drop)]
+#[derive(Clone, Copy)]
 pub enum SharedConstant {
     Share(RssShare),
     Refused(Answer),
 }
 
 // A party's share of a constant that all know: s0 is the constant, and s1 and s2 are 0.
+#[tactic(auto, using(std::proofs::lemmas::Bool::Decides::nat_tests), unfolding(crate::specs::Shares::constant_of))]
 pub fn constant(party: u32, value: u8) -> SharedConstant
     ensures { result ≡ constant_of party value }
 {
@@ -74,6 +77,7 @@ pub fn constant(party: u32, value: u8) -> SharedConstant
 }
 
 // count bytes of s from place; none where they would run past the end.
+#[tactic(auto, using(std::proofs::lemmas::Bool::Decides::nat_tests), unfolding(crate::specs::Shares::part_of))]
 fn part_of(s: &[u8], place: usize, count: usize) -> &[u8]
     ensures { result.now ≡ part_of s.now place count }
 {
@@ -90,6 +94,7 @@ fn part_of(s: &[u8], place: usize, count: usize) -> &[u8]
 
 // The message that a party reads: count bytes from place of the outbox that the direction names, 0 the next party's and 1 the previous
 // one's. It has no bytes for another direction, or where they would run past the outbox's end.
+#[tactic(auto, using(std::proofs::lemmas::Bool::Decides::nat_tests), unfolding(crate::specs::Shares::message_of))]
 pub fn message<'a>(
     next: &'a [u8],
     previous: &'a [u8],

@@ -1,5 +1,7 @@
 // The steps of a round on a whole share table: a layer on each of its six parts, a round key, and the S-box layers with the inversion in them.
 // A table that is refused is not changed at all. This is what the runs of crate aes are made of.
+#![tactic(auto)]
+
 mod parts;
 mod sboxes;
 

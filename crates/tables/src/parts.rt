@@ -22,7 +22,7 @@ const KEY_BYTES: usize = 16;
 const AFFINE_CONSTANT: u8 = 0x63;
 
 // What each party does alone, to si and to sii alike. All know which layer is at work, so that a branch on it tells nothing.
-#[derive(Drop)]
+#[derive(Clone, Copy)]
 pub enum Layer {
     ShiftRows,
     InvShiftRows,

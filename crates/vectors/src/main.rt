@@ -1,5 +1,7 @@
 // Runs the port on what FIPS-197 publishes, and prints the answers: the S-box of Figure 7, row by row. The check holds what is printed
 // to the file stdout, which has the standard's own table.
+#![tactic(auto)]
+
 ghost use Rattle.std.specs.Prelude.{◌≡◌};
 ghost use Rattle.fips197.specs.Field as field;
 
