@@ -20,6 +20,7 @@ fn product_at(ai: u8, aii: u8, bi: u8, bii: u8, alpha: u8) -> u8
     add(add(mul(ai, add(bi, bii)), mul(aii, bi)), alpha)
 }
 
+#[tactic(auto, using(std::proofs::lemmas::Bool::Decides::nat_tests), unfolding(crate::specs::Product::mul_number, crate::specs::Product::most_product))]
 fn mul_check(ci: usize, ai: usize, aii: usize, bi: usize, bii: usize, alphas: usize) -> Answer
     ensures { number_of result ≡ mul_number ci ai aii bi bii alphas }
 {
@@ -67,6 +68,7 @@ pub fn mul_first_half(
     Answer::Done
 }
 
+#[tactic(auto, using(std::proofs::lemmas::Bool::Decides::nat_tests), unfolding(crate::specs::Product::take_number, crate::specs::Product::most_product))]
 fn take_check(cii: usize, received: usize) -> Answer
     ensures { number_of result ≡ take_number cii received }
 {
@@ -95,6 +97,7 @@ pub fn take_message(cii: &mut [u8], received: &[u8]) -> Answer
     Answer::Done
 }
 
+#[tactic(auto, using(std::proofs::lemmas::Bool::Decides::nat_tests), unfolding(crate::specs::Product::open_number, crate::specs::Product::most_product))]
 fn open_check(opened: usize, si: usize, sii: usize, received: usize) -> Answer
     ensures { number_of result ≡ open_number opened si sii received }
 {
