@@ -18,6 +18,7 @@ pub const SPACE: usize = 256;
 const NEXT: u32 = 0;
 
 // One party's outbox. Its length is all that is told of it: it is written before it is read.
+#[tactic(auto, unfolding(crate::specs::Joint::space_size))]
 fn outbox() -> [u8; SPACE]
     ensures { length result ≡ space_size }
 {
@@ -108,6 +109,7 @@ fn multiply(
     exchange(out, &outbox0[0..n], &outbox1[0..n], &outbox2[0..n], n)
 }
 
+#[tactic(auto, using(std::proofs::lemmas::Bool::Decides::nat_tests), unfolding(crate::specs::Joint::joint_number, crate::specs::Joint::space_size))]
 fn joint_check(
     out: usize,
     x: usize,
