@@ -2,7 +2,7 @@
 use Prim.Native.Nat.{ℕ, ◌+◌, ◌-◌, ◌*◌, ◌/◌, ◌%◌, ◌≤◌}
 use native.Mathlib.Nat.{zero-mul, one-mul, zero-add, sub-zero}
 use native.Mathlib.Omega.{arith}
-use mathlib.Core.Path.{◌≡◌, ap, ◌∙◌}
+use mathlib.Core.Path.{◌≡◌, sym, ap, ◌∙◌}
 use mathlib.Core.List.{List, map}
 use lib.Dec.{leb, eqb}
 use lib.ListN.{length, take}
@@ -55,6 +55,16 @@ multiplied m place r out x y a0 a1 a2 new f g h e =
     let j = fits_joint m place (length out) (length x) (length y) (length a0) (length a1) (length a2) f g h in
     let z : number_of r ≡ 0 = e.0 ∙ j.1 in
     (z, rw (z, j.0) at e.1)
+
+-- and so none of the chain's: its tables have m positions, and the layer's 4 n alphas leave m from the place
+pub product-done : (n s m place : ℕ) (r : Answer) (out x y a0 a1 a2 new : List ℕ) → PositionsFit n s m (length a0) (length a1) (length a2)
+    → length out ≡ 6 * m → length x ≡ 6 * m → length y ≡ 6 * m → place + m ≤ 4 * n
+    → (number_of r ≡ joint_number (length out) (length x) (length y) (length a0) (length a1) (length a2) place)
+    × (new ≡ when_done (number_of r) (product_of (length out / 6) x y (drawn place (length out / 6) (three a0 a1 a2))) out)
+    → (number_of r ≡ 0) × (new ≡ product_of m x y (drawn place m (three a0 a1 a2)))
+product-done n s m place r out x y a0 a1 a2 new f lo lx ly h e =
+    let q = counted f in
+    multiplied m place r out x y a0 a1 a2 new (tables_fit n s m place _ _ _ _ _ _ f lo lx ly h) (q.second ∙ sym q.first) (q.third ∙ sym q.first) e
 
 -- the chain, from what each of its steps left
 chain_made : (m n s : ℕ) (a : ℕ → List ℕ) (x x2 x3 x6 x12 x15 x14 x240 r : List ℕ)

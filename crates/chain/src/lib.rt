@@ -22,6 +22,7 @@ const TABLE: usize = 1536;
 // The most positions of one inversion.
 const MOST_INVERSION: usize = 65536;
 
+#[tactic(auto, unfolding(joint::specs::Joint::space_size))]
 fn table_space() -> [u8; TABLE]
     ensures { length result ≡ 6 * space_size }
 {
@@ -97,6 +98,7 @@ fn chain(
     mul_tables(x, x15, x14, a0, a1, a2, 3 * n + s)
 }
 
+#[tactic(auto, using(std::proofs::lemmas::Bool::Decides::nat_tests), unfolding(crate::specs::Powers::chain_number, joint::specs::Joint::space_size, crate::specs::Chain::inversion_need, crate::specs::Chain::most_inversion))]
 fn chain_check(x: usize, a0: usize, a1: usize, a2: usize, n: usize, s: usize) -> Answer
     ensures { number_of result ≡ chain_number x a0 a1 a2 n s }
 {
