@@ -25,6 +25,7 @@ const TABLE: usize = 1536;
 const MOST_INVERSION: usize = 65536;
 
 // A table of SPACE positions. Its length is all that is told of it: it is written before it is read.
+#[tactic(auto, unfolding(joint::specs::Joint::space_size))]
 fn table_space() -> [u8; TABLE]
     ensures { length result ≡ 6 * space_size }
 {
@@ -102,6 +103,7 @@ fn invert_positions(
     Answer::Done
 }
 
+#[tactic(auto, using(std::proofs::lemmas::Bool::Decides::nat_tests), unfolding(crate::specs::Positions::parties_number, chain::specs::Chain::inversion_need, chain::specs::Chain::most_inversion))]
 fn parties_check(table: usize, a0: usize, a1: usize, a2: usize) -> Answer
     ensures { number_of result ≡ parties_number table a0 a1 a2 }
 {
@@ -155,6 +157,7 @@ fn least(a: usize, b: usize) -> usize
     b
 }
 
+#[tactic(auto, using(std::proofs::lemmas::Bool::Decides::nat_tests), unfolding(crate::specs::Inversion::inversion_number, chain::specs::Chain::inversion_need, chain::specs::Chain::most_inversion))]
 fn inversion_check(table: usize, alphas: usize) -> Answer
     ensures { number_of result ≡ inversion_number table alphas }
 {

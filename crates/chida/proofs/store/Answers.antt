@@ -1,0 +1,26 @@
+-- `chida::store` meets its contract. Assumes nothing.
+use Rattle.std.proofs.Common.{refl, sym, ◌∙◌, ◌*◌, arith}
+use Rattle.lists.proofs.Puts.{part-long}
+use Rattle.lists.proofs.Chunks.{part-chunk}
+use Rattle.lists.proofs.Putting.{putting_start, putting-more, putting_end}
+use Rattle.chida.specs.Positions.{stored}
+use Rattle.chida.proofs.Positions.{turn}
+use Rattle.chida.proofs.store.Goals as goal
+
+pub loop-k-init : goal.loop-k-init
+loop-k-init c = putting_start _ _ _ _ c.requires.large
+
+pub loop-k-preserved : goal.loop-k-preserved
+loop-k-preserved c =
+    let s = c.args in
+    let l = c.loop-k in
+    let g = c.paste in
+    let t = turn _ _ _ _ _ _ c.requires c.loop-k-test.true in
+    let y = part-chunk s.m l.k (l.k * s.m) _ s.x.now refl refl in
+    let z = part-chunk s.n l.k (l.k * s.n) _ l.table refl refl ∙ l.invariant.rest l.k (omega arith) in
+    putting-more _ _ _ _ _ _ l.invariant _ _ _ (omega arith) refl refl
+    (g.auto.part ∙ part-long s.n _ _ _ refl (omega (arith, t, l.invariant.long))) (rw (y, z) at g.ensures)
+
+pub returns : goal.returns
+unfolding stored
+returns c = putting_end _ _ _ _ _ _ c.loop-k.invariant (omega arith)
