@@ -10,7 +10,7 @@ returns c =
     let f = buffer_fits _ _ (sym c.in-Done.ensures) in
     let g = c.gf8_inv_parties in
     let z = g.ensures.0 ∙ thirds_zero _ _ _ _ _ _ refl f
-      (third-long _ _ al al f 0 0 k (omega arith) (omega arith) (omega arith))
-      (third-long _ _ al al f 1 k (2 * k) (omega arith) (omega arith) (omega arith))
-      (third-long _ _ al al f 2 (2 * k) (3 * k) (omega arith) (omega arith) (omega arith)) in
+    (third-long _ _ al al f 0 0 k (omega arith) (omega arith) (omega arith))
+    (third-long _ _ al al f 1 k (2 * k) (omega arith) (omega arith) (omega arith))
+    (third-long _ _ al al f 2 (2 * k) (3 * k) (omega arith) (omega arith) (omega arith)) in
     (z ∙ c.in-Done.ensures, rw z (rw z at g.ensures.1 ∙ thirds_are _ _ al _ f))

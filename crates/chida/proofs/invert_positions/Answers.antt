@@ -17,7 +17,7 @@ returns-in_default c =
     let loaded = ap length c.load.ensures ∙ length_cut s.n s.s s.m c.requires.1.within _ c.requires.0 in
     let f = box_front (6 * s.m) c.load.new.x c.table_space-x.result loaded in
     let d = inverted s.m s.n s.s c.invert-answer.result _ s.a0.now s.a1.now s.a2.now c.invert-answer.new.x
-      (ap length f ∙ loaded) c.requires.1 c.invert-answer.ensures in
+    (ap length f ∙ loaded) c.requires.1 c.invert-answer.ensures in
     absurd (c.in_default.not-Done (same_answer _ Done d.0))
 
 pub returns : goal.returns
@@ -27,7 +27,7 @@ returns c =
     let loaded = ap length c.load.ensures ∙ length_cut s.n s.s s.m c.requires.1.within _ c.requires.0 in
     let f = box_front (6 * s.m) c.load.new.x c.table_space-x.result loaded in
     let d = inverted s.m s.n s.s c.invert-answer.result _ s.a0.now s.a1.now s.a2.now c.invert-answer.new.x
-      (ap length f ∙ loaded) c.requires.1 c.invert-answer.ensures in
+    (ap length f ∙ loaded) c.requires.1 c.invert-answer.ensures in
     let e = d.1 ∙ ap (chain_of s.m alphas) (f ∙ c.load.ensures) in
     let y = box_front _ _ _ (ap length e ∙ length-chain_of _ _ _) ∙ e in
     (refl, c.store.ensures ∙ ap (λ (l : List ℕ). stored s.n s.s s.m l s.table.now) y)

@@ -13,7 +13,7 @@ loop-i-preserved c =
     let k = c.loop-i in
     let e : suc (8 - (k.i + 1)) ≡ 8 - k.i = omega arith in
     ap₂ (λ (s r : ℕ). s ⊕ steps_n (8 - (k.i + 1)) r (k.y / 2))
-        (c.add-sum.ensures ∙ ap (λ (m : ℕ). k.sum ⊕ m) c.masked.ensures) c.xtime-x.ensures
+    (c.add-sum.ensures ∙ ap (λ (m : ℕ). k.sum ⊕ m) c.masked.ensures) c.xtime-x.ensures
     ∙ steps-turn k.sum k.x k.y (8 - (k.i + 1))
     ∙ ap (λ (n : ℕ). k.sum ⊕ steps_n n k.x k.y) e
     ∙ k.invariant
