@@ -1,6 +1,6 @@
 -- One multiplication and one opening among three parties (document 01, "The rules of computing"), and when each is refused ("Numbers that
 -- come back"). Assumes nothing.
-use Rattle.std.specs.Prelude.{ℕ, ◌+◌, cond, List, leb, eqb, length, get_or}
+use Rattle.std.specs.Prelude.{ℕ, cond, List, leb, eqb, get_or}
 use Rattle.fips197.specs.Field.{◌⊕◌, ◌·◌}
 use Rattle.fips197.specs.State.{◌⊞◌}
 use Rattle.lists.specs.Lists.{tab}
