@@ -1,6 +1,6 @@
 -- The laws of the product: what reduction means, that the product is additive on both sides, commutative, associative, with unit 1 and
 -- below 256; the square; multiplication by x. Laws with no bound hold of all numbers. Assumes nothing.
-use mathlib.Core.Path.{◌≡◌, sym, ap, ap₂, ◌∙◌, subst, subst⁻¹}
+use mathlib.Core.Path.{◌≡◌, sym, ap, ap₂, ◌∙◌, subst⁻¹}
 use mathlib.Core.List.{[], ◌∷◌}
 use Prim.Native.Nat.{ℕ, zero, suc, ◌+◌, ◌*◌, ◌%◌, ◌^◌, ◌<◌}
 use native.Mathlib.Nat.{mod-lt, mod-eq_of_lt, zero-lt-suc}

@@ -1,5 +1,5 @@
 -- `chida::gf8_inv_layer` meets its contract: the thirds of its buffer are not refused. Assumes nothing.
-use Rattle.std.proofs.Common.{◌≡◌, refl, sym, ◌∙◌, ◌-◌, ◌*◌, ◌/◌, length, arith}
+use Rattle.std.proofs.Common.{refl, sym, ◌∙◌, ◌*◌, ◌/◌, length, arith}
 use Rattle.chida.proofs.InversionLayer.{buffer_fits, thirds_zero, thirds_are, third-long}
 use Rattle.chida.proofs.gf8_inv_layer.Goals as goal
 

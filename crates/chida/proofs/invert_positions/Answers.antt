@@ -1,12 +1,12 @@
 -- `chida::invert_positions` meets its contract: what was loaded is inverted, not refused, and stored. Assumes nothing.
-use Rattle.std.proofs.Common.{◌≡◌, refl, ap, ◌∙◌, List, ◌++◌, ℕ, ◌-◌, ◌+◌, ◌*◌, length, take, drop}
+use Rattle.std.proofs.Common.{refl, ap, ◌∙◌, List, ℕ, ◌+◌, ◌*◌, length}
 use Rattle.rep3.specs.declared.Answer.TheVariants.{Done}
 use Rattle.rep3.proofs.Determined.{same_answer}
 use Rattle.joint.specs.Joint.{three, drawn}
 use Rattle.joint.proofs.JointProduct.{box_front}
 use Rattle.chain.specs.Chain.{chain_of}
 use Rattle.chain.proofs.Inverting.{inverted}
-use Rattle.chida.specs.Positions.{cut, stored}
+use Rattle.chida.specs.Positions.{stored}
 use Rattle.chida.proofs.OpensInversion.{length-chain_of}
 use Rattle.chida.proofs.Cut.{length_cut}
 use Rattle.chida.proofs.invert_positions.Goals as goal

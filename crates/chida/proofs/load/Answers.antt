@@ -1,5 +1,5 @@
 -- `chida::load` meets its contract. Assumes nothing.
-use Rattle.std.proofs.Common.{refl, sym, ◌∙◌, ◌+◌, ◌*◌, arith}
+use Rattle.std.proofs.Common.{refl, ◌∙◌, arith}
 use Rattle.lists.proofs.Puts.{part-long}
 use Rattle.lists.proofs.Putting.{putting_start, putting-more, putting_end}
 use Rattle.chida.specs.Positions.{cut}

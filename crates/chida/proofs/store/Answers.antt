@@ -1,5 +1,5 @@
 -- `chida::store` meets its contract. Assumes nothing.
-use Rattle.std.proofs.Common.{refl, sym, ◌∙◌, ◌*◌, arith}
+use Rattle.std.proofs.Common.{refl, ◌∙◌, ◌*◌, arith}
 use Rattle.lists.proofs.Puts.{part-long}
 use Rattle.lists.proofs.Chunks.{part-chunk}
 use Rattle.lists.proofs.Putting.{putting_start, putting-more, putting_end}

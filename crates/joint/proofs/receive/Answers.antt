@@ -1,10 +1,8 @@
 -- `joint::receive` meets its contract: neither message is refused, and the two are the party's parts. Assumes nothing.
 use Rattle.std.proofs.Common.{◌≡◌, refl, ap, ◌∙◌, List, ◌++◌, ℕ, ◌-◌, ◌+◌, ◌*◌, length, take, drop, arith}
-use Rattle.rep3.specs.Answers.{number_of}
 use Rattle.rep3.specs.declared.Answer.TheVariants.{Done}
 use Rattle.rep3.proofs.Determined.{same_answer}
 use Rattle.lists.proofs.Puts.{put-long}
-use Rattle.joint.specs.Joint.{PartyFits, Exchanged}
 use Rattle.joint.proofs.Exchanging.{parts_in, take_own, take_next, message-next, exchanged}
 use Rattle.joint.proofs.receive.Goals as goal
 
