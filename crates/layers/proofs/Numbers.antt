@@ -2,33 +2,23 @@
 use Prim.Native.Nat.{ℕ, ◌*◌, ◌/◌, ◌%◌, ◌≤◌}
 use native.Mathlib.Omega.{arith}
 use mathlib.Core.Path.{◌≡◌}
-use borrow.Author.Tests.{eqb-true, leb-true, eq-eqb, le-leb}
-use Rattle.rep3.proofs.Refusals.{passed}
+use borrow.Author.Tests.{eq-eqb, le-leb}
+use Rattle.std.proofs.lemmas.Bool.Decides.{nat_tests}
 use Rattle.layers.specs.Layers.{block_bytes, table_bytes, most_blocks, layer_number, keyed_number, table_number}
 
 -- ---- a length that is not refused
 
 pub layer-passed : (n : ℕ) → layer_number n ≡ 0 → (n % block_bytes ≡ 0) × (n / block_bytes ≤ most_blocks)
 unfolding layer_number
-layer-passed n e =
-    let p = passed _ _ 3 e in
-    let q = passed _ _ 1 p.1 in
-    (eqb-true _ _ p.0, leb-true _ _ q.0)
+layer-passed n e = (grind (arith, nat_tests), grind (arith, nat_tests))
 
 pub keyed-passed : (n k : ℕ) → keyed_number n k ≡ 0 → (n % block_bytes ≡ 0) × (n / block_bytes ≤ most_blocks) × (k ≡ block_bytes)
 unfolding keyed_number
-keyed-passed n k e =
-    let p = passed _ _ 3 e in
-    let q = passed _ _ 1 p.1 in
-    let r = passed _ _ 4 q.1 in
-    (eqb-true _ _ p.0, leb-true _ _ q.0, eqb-true _ _ r.0)
+keyed-passed n k e = (grind (arith, nat_tests), grind (arith, nat_tests), grind (arith, nat_tests))
 
 pub table-passed : (n : ℕ) → table_number n ≡ 0 → (n % table_bytes ≡ 0) × (n / table_bytes ≤ most_blocks)
 unfolding table_number
-table-passed n e =
-    let p = passed _ _ 3 e in
-    let q = passed _ _ 1 p.1 in
-    (eqb-true _ _ p.0, leb-true _ _ q.0)
+table-passed n e = (grind (arith, nat_tests), grind (arith, nat_tests))
 
 -- ---- b blocks are not refused
 

@@ -2,7 +2,7 @@
 use Prim.Native.Nat.{ℕ, ◌+◌, ◌%◌}
 use mathlib.Core.Path.{◌≡◌}
 use mathlib.Core.List.{List, [], ◌∷◌}
-use Rattle.fips197.specs.Field.{◌⊕◌, ◌·◌}
+use Rattle.fips197.specs.Field.{◌⊕◌}
 use Rattle.fips197.specs.State.{◌⊞◌, at, state_of, add_round_key}
 use Rattle.layers.specs.Rows.{row_of, byte_of, row, row_by, bytes_of}
 use Rattle.layers.proofs.MixedBytes.{column_by}

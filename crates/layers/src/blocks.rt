@@ -90,6 +90,7 @@ fn column(s: [[u8; 4]; 4], c: usize) -> [u8; 4]
     [s[0][c], s[1][c], s[2][c], s[3][c]]
 }
 
+#[tactic(auto, unfolding(fips197::specs::State::shift_rows, fips197::specs::State::state_of, fips197::specs::State::at, crate::specs::Rows::bytes_of))]
 fn shift_rows(s: [[u8; 4]; 4]) -> [[u8; 4]; 4]
     ensures { bytes_of result ≡ fips197.shift_rows (bytes_of s) }
 {
@@ -101,6 +102,7 @@ fn shift_rows(s: [[u8; 4]; 4]) -> [[u8; 4]; 4]
     ]
 }
 
+#[tactic(auto, unfolding(fips197::specs::State::inv_shift_rows, fips197::specs::State::state_of, fips197::specs::State::at, crate::specs::Rows::bytes_of))]
 fn inv_shift_rows(s: [[u8; 4]; 4]) -> [[u8; 4]; 4]
     ensures { bytes_of result ≡ fips197.inv_shift_rows (bytes_of s) }
 {
@@ -164,6 +166,7 @@ fn inv_mix_columns(s: [[u8; 4]; 4]) -> [[u8; 4]; 4]
 }
 
 // Rows for columns: what both changes of order are.
+#[tactic(auto, unfolding(fips197::specs::State::from_bytes, fips197::specs::State::to_bytes, fips197::specs::State::state_of, fips197::specs::State::at, crate::specs::Rows::bytes_of))]
 fn transposed(s: [[u8; 4]; 4]) -> [[u8; 4]; 4]
     ensures { (bytes_of result ≡ fips197.from_bytes (bytes_of s)) × (bytes_of result ≡ fips197.to_bytes (bytes_of s)) }
 {

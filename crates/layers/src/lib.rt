@@ -25,6 +25,7 @@ const MOST_BLOCKS: usize = 4096;
 const NO_KEY: [[u8; 4]; 4] = [[0; 4]; 4];
 
 // The refusals of a layer on a part of n bytes.
+#[tactic(auto, using(std::proofs::lemmas::Bool::Decides::nat_tests), unfolding(crate::specs::Layers::layer_number))]
 fn layer_check(n: usize) -> Answer
     ensures { number_of result ≡ layer_number n }
 {
@@ -38,6 +39,7 @@ fn layer_check(n: usize) -> Answer
 }
 
 // The refusals of a layer on a part of n bytes with a round key of k.
+#[tactic(auto, using(std::proofs::lemmas::Bool::Decides::nat_tests), unfolding(crate::specs::Layers::keyed_number))]
 fn keyed_check(n: usize, k: usize) -> Answer
     ensures { number_of result ≡ keyed_number n k }
 {
@@ -54,6 +56,7 @@ fn keyed_check(n: usize, k: usize) -> Answer
 }
 
 // The refusals of a change of order on a state table of n bytes.
+#[tactic(auto, using(std::proofs::lemmas::Bool::Decides::nat_tests), unfolding(crate::specs::Layers::table_number))]
 fn table_check(n: usize) -> Answer
     ensures { number_of result ≡ table_number n }
 {
@@ -67,6 +70,7 @@ fn table_check(n: usize) -> Answer
 }
 
 // A layer on each block of a part.
+#[tactic(auto, unfolding(crate::specs::Layers::no_key, crate::specs::Rows::bytes_of, fips197::specs::State::state_of))]
 fn on_part(part: &mut [u8], layer: Layer) -> Answer
     ensures { (number_of result ≡ layer_number (length part.old))
         × (part.new ≡ when_done (number_of result) (each_block (map_of layer no_key) part.old) part.old) }
@@ -123,6 +127,7 @@ pub fn add_round_key(part: &mut [u8], key: &[u8]) -> Answer
 }
 
 // A change of order of each block of a state table. Its six parts hold as many blocks each, so that the table is a row of blocks.
+#[tactic(auto, unfolding(crate::specs::Layers::no_key, crate::specs::Rows::bytes_of, fips197::specs::State::state_of))]
 fn on_table(state: &mut [u8], layer: Layer) -> Answer
     ensures { (number_of result ≡ table_number (length state.old))
         × (state.new ≡ when_done (number_of result) (each_block (map_of layer no_key) state.old) state.old) }
