@@ -3,7 +3,7 @@ use Prim.Native.Nat.{ℕ, ◌+◌, ◌*◌, ◌≤◌, ◌<◌}
 use native.Mathlib.Omega.{arith}
 use mathlib.Core.Path.{◌≡◌, refl}
 use mathlib.Core.Logic.{◌⊎◌, inl, inr}
-use mathlib.Core.Bool.{Bool, true, false, not, cond}
+use mathlib.Core.Bool.{Bool, true, false, cond}
 use borrow.Author.Tests.{eqb-true, leb-true}
 use lib.Dec.{leb, eqb}
 use Rattle.rep3.proofs.Refusals.{passed}
@@ -21,6 +21,9 @@ most_of false false = omega arith
 pub rounds-most : (v : ℕ) → rounds_of v ≤ 14
 unfolding rounds_of
 rounds-most v = most_of (eqb v 128) (eqb v 256)
+
+-- for a function's attribute
+pub ruleset round_bounds = (rounds-most)
 
 -- a variant has 10 rounds or 14, and its need is that of as many inversions
 abbrev pub Has : ℕ → ℕ → ℕ → ℕ → Type 0

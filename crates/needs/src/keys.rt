@@ -12,6 +12,7 @@ const KEY_BYTES: usize = 16;
 const LAST_PARTY: u32 = 2;
 
 // The refusals of a round key half of a key table of so many bytes.
+#[tactic(auto, using(std::proofs::lemmas::Bool::Decides::nat_tests), unfolding(crate::specs::Keys::half_number))]
 fn half_check(variant: u32, keys: usize, party: u32, round: u32) -> Answer
     ensures { number_of result ≡ half_number variant keys party round }
 {
@@ -31,6 +32,7 @@ fn half_check(variant: u32, keys: usize, party: u32, round: u32) -> Answer
 }
 
 // The part of a party's si, or of its sii.
+#[tactic(auto, using(std::proofs::lemmas::Bool::Decides::nat_tests), unfolding(crate::specs::Keys::half_index))]
 fn half_index(party: u32, sii: bool) -> usize
     requires { party ≤ 2 }
     ensures { result ≡ half_index party sii }
@@ -42,6 +44,7 @@ fn half_index(party: u32, sii: bool) -> usize
 }
 
 // Sixteen bytes of the key table, and none on a refusal.
+#[tactic(auto, using(crate::proofs::Numbers::round_bounds), unfolding(crate::specs::Keys::half_of))]
 pub fn round_key_half<'a>(
     variant: u32,
     keys: &'a [u8],

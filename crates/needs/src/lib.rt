@@ -46,6 +46,7 @@ pub enum Needed {
 }
 
 // The rounds of a variant, and 0 for a number that is none.
+#[tactic(auto, using(std::proofs::lemmas::Bool::Decides::nat_tests), unfolding(crate::specs::Needs::rounds_of))]
 pub fn rounds_of(variant: u32) -> usize
     ensures { result ≡ rounds_of variant }
 {
@@ -58,6 +59,7 @@ pub fn rounds_of(variant: u32) -> usize
     0
 }
 
+#[tactic(auto, using(std::proofs::lemmas::Bool::Decides::nat_tests), unfolding(crate::specs::Needs::has_variant))]
 pub fn has_variant(kind: u32, variant: u32) -> bool
     ensures { result ≡ has_variant kind variant }
 {
@@ -71,6 +73,7 @@ pub fn has_variant(kind: u32, variant: u32) -> bool
 }
 
 // The alphas of each party: the one place that has the figures, for the need question and for a run's own check.
+#[tactic(auto, using(std::proofs::lemmas::Bool::Decides::nat_tests), unfolding(crate::specs::Needs::need_of, crate::specs::Needs::schedule_need, crate::specs::Needs::block_need))]
 fn need_of(kind: u32, variant: u32, blocks: usize) -> usize
     requires { blocks ≤ most_blocks }
     ensures { result ≡ need_of kind variant blocks }
@@ -87,12 +90,14 @@ fn need_of(kind: u32, variant: u32, blocks: usize) -> usize
     blocks * BLOCK_NEED_256
 }
 
+#[tactic(auto, using(crate::proofs::Numbers::round_bounds), unfolding(crate::specs::Needs::key_table_bytes))]
 pub fn key_table_bytes(variant: u32) -> usize
     ensures { result ≡ key_table_bytes (rounds_of variant) }
 {
     TABLE_BYTES * (rounds_of(variant) + 1)
 }
 
+#[tactic(auto, using(std::proofs::lemmas::Bool::Decides::nat_tests), unfolding(crate::specs::Needs::need_number))]
 fn need_check(kind: u32, variant: u32, blocks: usize) -> Answer
     ensures { number_of result ≡ need_number kind variant blocks }
 {
@@ -109,6 +114,7 @@ fn need_check(kind: u32, variant: u32, blocks: usize) -> Answer
 }
 
 // The refusals of a run on a state table, a key table and an alpha buffer of so many bytes.
+#[tactic(auto, using(std::proofs::lemmas::Bool::Decides::nat_tests), unfolding(crate::specs::Needs::run_number))]
 pub fn run_check(kind: u32, variant: u32, state: usize, keys: usize, alphas: usize) -> Answer
     ensures { number_of result ≡ run_number kind variant state keys alphas }
 {
