@@ -6,7 +6,7 @@ ghost use Rattle.std.specs.Prelude.{◌≡◌};
 ghost use Rattle.fips197.specs.Field as field;
 
 use gf8::{add, mul, square};
-use libc::STDOUT_FILENO;
+use std::io;
 
 // The constant of the S-box's affine map.
 const AFFINE_CONSTANT: u8 = 0x63;
@@ -24,23 +24,25 @@ fn inverse(x: u8) -> u8
     mul(x240, x14)
 }
 
+#[tactic(auto, unfolding(fips197::specs::Field::sbox, fips197::specs::Field::affine_constant))]
 fn sbox(x: u8) -> u8
     ensures { result ≡ field.sbox x }
 {
     add(gf8::aes_sbox_affine_transform(inverse(x)), AFFINE_CONSTANT)
 }
 
-fn print_byte(x: u8) {
-    io::print_hex(STDOUT_FILENO, x as u64, 2);
+fn print_byte(rt: HostRuntime, x: u8) -> io::Result<()> {
+    print!(rt; "{x:02x}")
 }
 
-fn main() {
+fn main(rt: HostRuntime) -> io::Result<()> {
     for x in 0..256u32 {
-        print_byte(sbox((x % 256) as u8));
+        print_byte(rt, sbox((x % 256) as u8))?;
         if x % 16 == 15 {
-            io::write_all(STDOUT_FILENO, b"\n");
+            println!(rt; "")?;
         } else {
-            io::write_all(STDOUT_FILENO, b" ");
+            print!(rt; " ")?;
         }
     }
+    Ok(())
 }
