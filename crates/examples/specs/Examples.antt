@@ -1,6 +1,6 @@
 -- The worked examples of document 01, "Either side of each line", in its order: what the definitions give, and what the document says.
 -- Shares (s0, s1, s2) are a share table of one position, as the three parties hold it. Assumes nothing.
-use Rattle.std.specs.Prelude.{List, [], ◌∷◌, ℕ, get_or, take, drop}
+use Rattle.std.specs.Prelude.{List, [], ◌∷◌, ℕ, get_or}
 use Rattle.fips197.specs.Field.{◌·◌, square, inverse, affine, sbox}
 use Rattle.fips197.specs.State.{shift_rows, mix_columns}
 use Rattle.rep3.specs.Tables.{six_parts, si_part, share_of, opened}
