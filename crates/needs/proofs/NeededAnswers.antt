@@ -38,7 +38,8 @@ module _ (kind variant blocks : ℕ) where
   unfolding needed_of
   counted n z e = rw (e, eq-eqb _ _ z)
 
-  pub refused : (a : Answer) → (a ≡ Done → ⊥) → number_of a ≡ need_number kind variant blocks → needed.Refused a ≡ needed_of kind variant blocks
+  pub refused : (a : Answer) → (a ≡ Done → ⊥) → number_of a ≡ need_number kind variant blocks
+      → needed.Refused a ≡ needed_of kind variant blocks
   unfolding needed_of
   refused a h e =
       let d : eqb (number_of a) 0 ≡ false = ne_eqb (number_of a) 0 (not_done a h) in

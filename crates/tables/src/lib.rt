@@ -19,6 +19,7 @@ const TABLE_BYTES: usize = 96;
 const MOST_BLOCKS: usize = 4096;
 
 // The refusals of a state table of so many bytes.
+#[tactic(auto, using(std::proofs::lemmas::Bool::Decides::nat_tests), unfolding(layers::specs::Layers::table_number))]
 fn table_check(t: usize) -> Answer
     ensures { number_of result ≡ table_number t }
 {
@@ -32,6 +33,7 @@ fn table_check(t: usize) -> Answer
 }
 
 // And with round key r of a key table of so many bytes.
+#[tactic(auto, using(std::proofs::lemmas::Bool::Decides::nat_tests), unfolding(crate::specs::Tables::key_number))]
 fn key_check(t: usize, k: usize, r: usize) -> Answer
     ensures { number_of result ≡ key_number t k r }
 {
@@ -51,6 +53,7 @@ fn key_check(t: usize, k: usize, r: usize) -> Answer
 }
 
 // And with the alphas from a place of each third of a buffer of so many bytes.
+#[tactic(auto, using(std::proofs::lemmas::Bool::Decides::nat_tests), unfolding(crate::specs::Tables::alphas_number))]
 fn alphas_check(t: usize, a: usize, from: usize) -> Answer
     ensures { number_of result ≡ alphas_number t a from }
 {
@@ -73,6 +76,7 @@ fn alphas_check(t: usize, a: usize, from: usize) -> Answer
 }
 
 // A layer on each part of a state table.
+#[tactic(auto, using(crate::proofs::Numbers::table_fits))]
 pub fn on_table(state: &mut [u8], layer: Layer) -> Answer
     ensures { (number_of result ≡ table_number (length state.old))
         × (state.new ≡ when_done (number_of result) (on_table (length state.old / 6) layer state.old) state.old) }
@@ -86,6 +90,7 @@ pub fn on_table(state: &mut [u8], layer: Layer) -> Answer
 }
 
 // Round key r of a key table, on each part of a state table.
+#[tactic(auto, using(crate::proofs::Numbers::key_fits))]
 pub fn add_key(state: &mut [u8], keys: &[u8], r: usize) -> Answer
     ensures { (number_of result ≡ key_number (length state.old) (length keys.now) r)
         × (state.new ≡ when_done (number_of result) (key_added (length state.old / 6) (length keys.now / 6) keys.now r state.old) state.old) }
@@ -99,6 +104,7 @@ pub fn add_key(state: &mut [u8], keys: &[u8], r: usize) -> Answer
 }
 
 // SubBytes and ShiftRows, with each party's alphas from a place of its third of the buffer: where the last inversion stopped.
+#[tactic(auto, using(crate::proofs::Numbers::alphas_fit))]
 pub fn sub_and_shift(state: &mut [u8], alphas: &[u8], from: usize) -> Answer
     ensures { (number_of result ≡ alphas_number (length state.old) (length alphas.now) from)
         × (state.new ≡ when_done (number_of result) (sub_shifted (length state.old / 6) (alphas_from (length state.old / 6) (length alphas.now / 3) alphas.now from) state.old) state.old) }
@@ -112,6 +118,7 @@ pub fn sub_and_shift(state: &mut [u8], alphas: &[u8], from: usize) -> Answer
 }
 
 // InvShiftRows and InvSubBytes, in the same way.
+#[tactic(auto, using(crate::proofs::Numbers::alphas_fit))]
 pub fn shift_and_sub(state: &mut [u8], alphas: &[u8], from: usize) -> Answer
     ensures { (number_of result ≡ alphas_number (length state.old) (length alphas.now) from)
         × (state.new ≡ when_done (number_of result) (shift_subbed (length state.old / 6) (alphas_from (length state.old / 6) (length alphas.now / 3) alphas.now from) state.old) state.old) }

@@ -33,6 +33,7 @@ pub enum Layer {
 }
 
 // What part k holds of a party's share: an even part is its si, an odd one its sii.
+#[tactic(auto, using(std::proofs::lemmas::Bool::Decides::nat_tests))]
 fn half_held(share: RssShare, k: usize) -> u8
     ensures { result ≡ half_held share k }
 {

@@ -7,7 +7,8 @@ use Rattle.needs.proofs.keys.round_key_half.Goals as goal
 use Rattle.needs.proofs.keys.round_key_half.Goals.{After-half_index}
 
 -- the half is within the key table
-room : (c : After-half_index) → c.half_index.result * (16 * (c.rounds_of.result + 1)) + 16 * c.args.round + 16 ≤ length c.args.keys.now
+room : (c : After-half_index)
+    → c.half_index.result * (16 * (c.rounds_of.result + 1)) + 16 * c.args.round + 16 ≤ length c.args.keys.now
 room c =
     let a = c.args in
     let f = half_fits _ _ _ _ (sym c.in-Done.ensures) in
