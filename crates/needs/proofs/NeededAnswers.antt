@@ -1,5 +1,6 @@
 -- The answer to the need question from its number: a count where it is 0, and otherwise the answer that has the number. Assumes nothing.
-use Prim.Native.Nat.{ℕ}
+use Prim.Native.Nat.{ℕ, ◌<◌}
+use native.Mathlib.Omega.{arith}
 use mathlib.Core.Path.{◌≡◌, refl, sym, ap, ◌∙◌}
 use mathlib.Core.Bool.{false}
 use lib.Dec.{eqb}
@@ -28,19 +29,18 @@ answer_back Header = refl
 answer_back Mode = refl
 answer_back Count = refl
 
--- only Done has the number 0
-not_done : (a : Answer) → (a ≡ Done → ⊥) → number_of a ≡ 0 → ⊥
+-- the number of a refusal is not 0
+pub above_zero : (a : Answer) → (a ≡ Done → ⊥) → 0 < number_of a
 unfolding answer_of
-not_done a h z = h (sym (answer_back a) ∙ ap answer_of z)
+above_zero a h = let n : number_of a ≡ 0 → ⊥ = λ z. h (sym (answer_back a) ∙ ap answer_of z) in omega arith
 
 module _ (kind variant blocks : ℕ) where
   pub counted : (n : ℕ) → need_number kind variant blocks ≡ 0 → n ≡ need_of kind variant blocks → needed.Count n ≡ needed_of kind variant blocks
   unfolding needed_of
   counted n z e = rw (e, eq-eqb _ _ z)
 
-  pub refused : (a : Answer) → (a ≡ Done → ⊥) → number_of a ≡ need_number kind variant blocks
-      → needed.Refused a ≡ needed_of kind variant blocks
+  pub refused : (a : Answer) → 0 < number_of a → number_of a ≡ need_number kind variant blocks → needed.Refused a ≡ needed_of kind variant blocks
   unfolding needed_of
   refused a h e =
-      let d : eqb (number_of a) 0 ≡ false = ne_eqb (number_of a) 0 (not_done a h) in
+      let d : eqb (number_of a) 0 ≡ false = ne_eqb (number_of a) 0 (λ (z : number_of a ≡ 0). omega arith) in
       rw (← e, d, answer_back)

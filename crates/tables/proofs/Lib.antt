@@ -1,3 +1,4 @@
+pub mod Tags
 pub mod PartMaps
 pub mod SubChunks
 pub mod Alphas
