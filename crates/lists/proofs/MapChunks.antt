@@ -1,4 +1,4 @@
--- The laws of mapChunks: its chunks, two maps one after the other, and maps that agree on the chunks. Assumes nothing.
+-- The laws of map_chunks: its chunks, two maps one after the other, and maps that agree on the chunks. Assumes nothing.
 use Prim.Native.Nat.{ℕ, zero, suc, ◌+◌, ◌*◌, ◌≤◌, ◌<◌, suc-le-suc}
 use native.Mathlib.Nat.{suc-mul, not-suc-le-zero, le_of_suc-le-suc, zero-lt-suc}
 use native.Mathlib.Omega.{arith}
