@@ -5,8 +5,8 @@ usage: python3 tools/respell.py [--check]      at the top of the repository, aft
 
 A name is split at its dashes, and a part such as `shiftRows` becomes `shift_rows`. A dash stays before a part that names a definition
 (`shift_rows-inv_shift_rows`); before a plain word it becomes an underscore (`tab_cong`). Only names that specs/*.antt and proofs/*.antt
-declare are turned, wherever they stand in .rt and .antt files; the names of src/ stay, and so do the names of goals in proofs/F/. It stops
-where two names would fall together.
+declare are turned, wherever they stand in .rt and .antt files; the names of src/ stay, and so do the names of goals in proofs/F/. It stops at
+no name: it says on standard error where a new name stands already, or where two names become one. Run it once, on what the port script leaves.
 """
 import collections
 import glob
