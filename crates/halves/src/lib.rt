@@ -8,7 +8,7 @@ ghost use Rattle.rep3.specs.Answers.{number_of, when_done};
 ghost use Rattle.halves.specs.Product.{product_at, first_half, open_of, mul_number, take_number, open_number};
 
 use gf8::{add, mul};
-use rep3::Answer;
+use rep3::{Answer, Refusal};
 
 // The most positions of one product or opening.
 const MOST_PRODUCT: usize = 131072;
@@ -25,24 +25,24 @@ fn mul_check(ci: usize, ai: usize, aii: usize, bi: usize, bii: usize, alphas: us
     ensures { number_of result ≡ mul_number ci ai aii bi bii alphas }
 {
     if ai != ci {
-        return Answer::Length;
+        return Err(Refusal::Length);
     }
     if aii != ci {
-        return Answer::Length;
+        return Err(Refusal::Length);
     }
     if bi != ci {
-        return Answer::Length;
+        return Err(Refusal::Length);
     }
     if bii != ci {
-        return Answer::Length;
+        return Err(Refusal::Length);
     }
     if alphas != ci {
-        return Answer::Length;
+        return Err(Refusal::Length);
     }
     if ci > MOST_PRODUCT {
-        return Answer::TooMany;
+        return Err(Refusal::TooMany);
     }
-    Answer::Done
+    Ok(())
 }
 
 // The first half of a product: what a party computes of its shares, keeps as its si, and sends to the previous party.
@@ -54,18 +54,15 @@ pub fn mul_first_half(
     bii: &[u8],
     alphas: &[u8],
 ) -> Answer
-    ensures { (number_of result ≡ mul_number (length ci.old) (length ai.now) (length aii.now) (length bi.now) (length bii.now) (length alphas.now))
-        × (ci.new ≡ when_done (number_of result) (first_half (length ci.old) ai.now aii.now bi.now bii.now alphas.now) ci.old) }
+    ensures number { number_of result ≡ mul_number (length ci.old) (length ai.now) (length aii.now) (length bi.now) (length bii.now) (length alphas.now) }
+    ensures bytes { ci.new ≡ when_done (number_of result) (first_half (length ci.old) ai.now aii.now bi.now bii.now alphas.now) ci.old }
 {
     let n = ci.len();
-    let answer = mul_check(n, ai.len(), aii.len(), bi.len(), bii.len(), alphas.len());
-    let Answer::Done = answer else {
-        return answer;
-    };
-    for j in 0..n {
-        ci[j] = product_at(ai[j], aii[j], bi[j], bii[j], alphas[j]);
+    mul_check(n, ai.len(), aii.len(), bi.len(), bii.len(), alphas.len())?;
+    for (j, c) in ci.iter_mut().enumerate() {
+        *c = product_at(ai[j], aii[j], bi[j], bii[j], alphas[j]);
     }
-    Answer::Done
+    Ok(())
 }
 
 #[tactic(auto, using(std::proofs::lemmas::Bool::Decides::nat_tests), unfolding(crate::specs::Product::take_number, crate::specs::Product::most_product))]
@@ -73,28 +70,24 @@ fn take_check(cii: usize, received: usize) -> Answer
     ensures { number_of result ≡ take_number cii received }
 {
     if cii > MOST_PRODUCT {
-        return Answer::TooMany;
+        return Err(Refusal::TooMany);
     }
     if received != cii {
-        return Answer::Message;
+        return Err(Refusal::Message);
     }
-    Answer::Done
+    Ok(())
 }
 
 // The second half: what the next party sent becomes the party's sii. It is taken whole or not at all.
+#[tactic(auto, using(crate::proofs::Fits::take_fits))]
 pub fn take_message(cii: &mut [u8], received: &[u8]) -> Answer
-    ensures { (number_of result ≡ take_number (length cii.old) (length received.now))
-        × (cii.new ≡ when_done (number_of result) received.now cii.old) }
+    ensures number { number_of result ≡ take_number (length cii.old) (length received.now) }
+    ensures bytes { cii.new ≡ when_done (number_of result) received.now cii.old }
 {
     let n = cii.len();
-    let answer = take_check(n, received.len());
-    let Answer::Done = answer else {
-        return answer;
-    };
-    for i in 0..n {
-        cii[i] = received[i];
-    }
-    Answer::Done
+    take_check(n, received.len())?;
+    cii.copy_from_slice(received);
+    Ok(())
 }
 
 #[tactic(auto, using(std::proofs::lemmas::Bool::Decides::nat_tests), unfolding(crate::specs::Product::open_number, crate::specs::Product::most_product))]
@@ -102,32 +95,29 @@ fn open_check(opened: usize, si: usize, sii: usize, received: usize) -> Answer
     ensures { number_of result ≡ open_number opened si sii received }
 {
     if si != opened {
-        return Answer::Length;
+        return Err(Refusal::Length);
     }
     if sii != opened {
-        return Answer::Length;
+        return Err(Refusal::Length);
     }
     if opened > MOST_PRODUCT {
-        return Answer::TooMany;
+        return Err(Refusal::TooMany);
     }
     if received != opened {
-        return Answer::Message;
+        return Err(Refusal::Message);
     }
-    Answer::Done
+    Ok(())
 }
 
 // What a party opens: its two shares and what came from the previous party, which sent its si.
 pub fn output_round(opened: &mut [u8], si: &[u8], sii: &[u8], received: &[u8]) -> Answer
-    ensures { (number_of result ≡ open_number (length opened.old) (length si.now) (length sii.now) (length received.now))
-        × (opened.new ≡ when_done (number_of result) (open_of si.now sii.now received.now) opened.old) }
+    ensures number { number_of result ≡ open_number (length opened.old) (length si.now) (length sii.now) (length received.now) }
+    ensures bytes { opened.new ≡ when_done (number_of result) (open_of si.now sii.now received.now) opened.old }
 {
     let n = opened.len();
-    let answer = open_check(n, si.len(), sii.len(), received.len());
-    let Answer::Done = answer else {
-        return answer;
-    };
-    for k in 0..n {
-        opened[k] = add(add(si[k], sii[k]), received[k]);
+    open_check(n, si.len(), sii.len(), received.len())?;
+    for (k, x) in opened.iter_mut().enumerate() {
+        *x = add(add(si[k], sii[k]), received[k]);
     }
-    Answer::Done
+    Ok(())
 }

@@ -2,19 +2,20 @@
 -- docs/PROMISES.md shows for each operation that no second answer would satisfy its promise. Assumes nothing.
 use mathlib.Core.Path.{◌≡◌, refl, sym, ap, ◌∙◌}
 use mathlib.Core.List.{List, [], ◌∷◌}
+use native.Mathlib.Omega.{arith}
 use Prim.Native.Nat.{ℕ}
 use lib.ListN.{get_or}
-use Rattle.rep3.specs.Answers.{number_of, when_done}
-use Rattle.rep3.specs.declared.Answer.{Answer}
-use Rattle.rep3.specs.declared.Answer.TheVariants.{Done, Length, TooMany, Message, Block, Keys, Alphas, Variant, Party, Round, Header, Mode, Count}
+use Rattle.std.specs.Prelude.{Ok, Err}
+use Rattle.rep3.specs.Answers.{Answer, refusal_number, number_of, when_done}
+use Rattle.rep3.specs.declared.Refusal.{Refusal}
+use Rattle.rep3.specs.declared.Refusal.TheVariants.{Length, TooMany, Message, Block, Keys, Alphas, Variant, Party, Round, Header, Mode, Count}
 
-answer_of : ℕ → Answer
-answer_of n =
-    get_or (Done ∷ Length ∷ TooMany ∷ Message ∷ Block ∷ Keys ∷ Alphas ∷ Variant ∷ Party ∷ Round ∷ Header ∷ Mode ∷ Count ∷ []) n Done
+refusal_of : ℕ → Refusal
+refusal_of n =
+    get_or (Length ∷ Length ∷ TooMany ∷ Message ∷ Block ∷ Keys ∷ Alphas ∷ Variant ∷ Party ∷ Round ∷ Header ∷ Mode ∷ Count ∷ []) n Length
 
-back : (a : Answer) → answer_of (number_of a) ≡ a
-unfolding answer_of
-back Done = refl
+back : (r : Refusal) → refusal_of (refusal_number r) ≡ r
+unfolding refusal_of
 back Length = refl
 back TooMany = refl
 back Message = refl
@@ -28,9 +29,26 @@ back Header = refl
 back Mode = refl
 back Count = refl
 
+no_zero : {X : Type 0} (r : Refusal) → 0 ≡ refusal_number r → X
+no_zero Length e = absurd (omega arith)
+no_zero TooMany e = absurd (omega arith)
+no_zero Message e = absurd (omega arith)
+no_zero Block e = absurd (omega arith)
+no_zero Keys e = absurd (omega arith)
+no_zero Alphas e = absurd (omega arith)
+no_zero Variant e = absurd (omega arith)
+no_zero Party e = absurd (omega arith)
+no_zero Round e = absurd (omega arith)
+no_zero Header e = absurd (omega arith)
+no_zero Mode e = absurd (omega arith)
+no_zero Count e = absurd (omega arith)
+
 -- a number has one answer
 pub same_answer : (a b : Answer) → number_of a ≡ number_of b → a ≡ b
-same_answer a b e = sym (back a) ∙ ap answer_of e ∙ back b
+same_answer (Ok x) (Ok y) e = refl
+same_answer (Ok x) (Err r) e = no_zero r e
+same_answer (Err r) (Ok x) e = no_zero r (sym e)
+same_answer (Err r) (Err q) e = ap Err (sym (back r) ∙ ap refusal_of e ∙ back q)
 
 -- the promise: the answer's number is k, and the lent list is new where k is 0 and otherwise old
 abbrev pub Promised : ℕ → List ℕ → List ℕ → Answer → List ℕ → Type 0

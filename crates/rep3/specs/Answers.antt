@@ -1,22 +1,30 @@
 -- The numbers of document 01, "Numbers that come back", and what a lent list holds after an answer. Assumes nothing.
-use Rattle.std.specs.Prelude.{ℕ, zero, suc, List}
-use Rattle.rep3.specs.declared.Answer.{Answer}
-use Rattle.rep3.specs.declared.Answer.TheVariants.{Done, Length, TooMany, Message, Block, Keys, Alphas, Variant, Party, Round, Header, Mode, Count}
+use Rattle.std.specs.Prelude.{ℕ, zero, suc, List, Result, Ok, Err}
+use Rattle.rep3.specs.declared.Refusal.{Refusal}
+use Rattle.rep3.specs.declared.Refusal.TheVariants.{Length, TooMany, Message, Block, Keys, Alphas, Variant, Party, Round, Header, Mode, Count}
 
-abbrev pub number_of : Answer → ℕ
-number_of Done = 0
-number_of Length = 1
-number_of TooMany = 2
-number_of Message = 3
-number_of Block = 4
-number_of Keys = 5
-number_of Alphas = 6
-number_of Variant = 7
-number_of Party = 8
-number_of Round = 9
-number_of Header = 10
-number_of Mode = 11
-number_of Count = 12
+abbrev pub refusal_number : Refusal → ℕ
+refusal_number Length = 1
+refusal_number TooMany = 2
+refusal_number Message = 3
+refusal_number Block = 4
+refusal_number Keys = 5
+refusal_number Alphas = 6
+refusal_number Variant = 7
+refusal_number Party = 8
+refusal_number Round = 9
+refusal_number Header = 10
+refusal_number Mode = 11
+refusal_number Count = 12
+
+-- a step is done, or refuses
+abbrev pub Answer : Type 0
+Answer = Result (Unit {0}) Refusal
+
+-- 0 is done; every other number is a refusal's
+abbrev pub number_of : {A : Type 0} → Result A Refusal → ℕ
+number_of (Ok x) = 0
+number_of (Err r) = refusal_number r
 
 -- what a lent list holds after an answer with number n: the new list if n is 0, and the old one after a refusal
 abbrev pub when_done : ℕ → List ℕ → List ℕ → List ℕ

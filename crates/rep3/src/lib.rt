@@ -3,13 +3,15 @@
 #![tactic(auto)]
 
 ghost use Rattle.std.specs.Prelude.{◌≡◌};
-ghost use Rattle.rep3.specs.Answers.{number_of};
+ghost use Rattle.rep3.specs.Answers.{number_of, refusal_number};
 ghost use Rattle.rep3.specs.Shares.{constant_of, part_of, message_of};
 
-// What a step answers: done, or why it refused. The variants stand in the order of their numbers.
-#[derive(Clone, Copy)]
-pub enum Answer {
-    Done,
+use std::error::Error;
+use std::fmt;
+
+// Why a step refused. The variants stand in the order of their numbers.
+#[derive(Clone, Copy, Debug, PartialEq, Eq, Hash)]
+pub enum Refusal {
     Length,
     TooMany,
     Message,
@@ -24,56 +26,83 @@ pub enum Answer {
     Count,
 }
 
+// What a step answers: done, or why it refused.
+pub type Answer = Result<(), Refusal>;
+
+impl From<Refusal> for u32 {
+    ghost from_gives = { λ r n. n ≡ refusal_number r };
+
+    fn from(refusal: Refusal) -> u32 {
+        match refusal {
+            Refusal::Length => 1,
+            Refusal::TooMany => 2,
+            Refusal::Message => 3,
+            Refusal::Block => 4,
+            Refusal::Keys => 5,
+            Refusal::Alphas => 6,
+            Refusal::Variant => 7,
+            Refusal::Party => 8,
+            Refusal::Round => 9,
+            Refusal::Header => 10,
+            Refusal::Mode => 11,
+            Refusal::Count => 12,
+        }
+    }
+}
+
+impl fmt::Display for Refusal {
+    fn fmt<W: fmt::Write>(&self, f: &mut fmt::Formatter<W>) -> fmt::Result {
+        f.write_str(match self {
+            Refusal::Length => "lengths differ, or a buffer is no table",
+            Refusal::TooMany => "too many positions or blocks",
+            Refusal::Message => "a message of the wrong length",
+            Refusal::Block => "not whole blocks",
+            Refusal::Keys => "not the round keys of the variant",
+            Refusal::Alphas => "not the alphas that are needed",
+            Refusal::Variant => "no such variant",
+            Refusal::Party => "no such party",
+            Refusal::Round => "no such round",
+            Refusal::Header => "no header of a run file",
+            Refusal::Mode => "no such mode",
+            Refusal::Count => "not the bytes that the header counts",
+        })
+    }
+}
+
+impl Error for Refusal {}
+
 // The number that goes over the boundary.
 pub fn number(answer: Answer) -> u32
     ensures { result ≡ number_of answer }
 {
     match answer {
-        Answer::Done => 0,
-        Answer::Length => 1,
-        Answer::TooMany => 2,
-        Answer::Message => 3,
-        Answer::Block => 4,
-        Answer::Keys => 5,
-        Answer::Alphas => 6,
-        Answer::Variant => 7,
-        Answer::Party => 8,
-        Answer::Round => 9,
-        Answer::Header => 10,
-        Answer::Mode => 11,
-        Answer::Count => 12,
+        Ok(()) => 0,
+        Err(refusal) => u32::from(refusal),
     }
 }
 
 // One party's share of a byte s0 + s1 + s2: party i holds s_i and s_(i+1 mod 3).
-#[derive(Clone, Copy)]
+#[derive(Clone, Copy, Debug, PartialEq, Eq, Hash)]
 pub struct RssShare {
     pub si: u8,
     pub sii: u8,
 }
 
-// The share of a constant, or the refusal.
-#[derive(Clone, Copy)]
-pub enum SharedConstant {
-    Share(RssShare),
-    Refused(Answer),
-}
-
 // A party's share of a constant that all know: s0 is the constant, and s1 and s2 are 0.
 #[tactic(auto, using(std::proofs::lemmas::Bool::Decides::nat_tests), unfolding(crate::specs::Shares::constant_of))]
-pub fn constant(party: u32, value: u8) -> SharedConstant
+pub fn constant(party: u32, value: u8) -> Result<RssShare, Refusal>
     ensures { result ≡ constant_of party value }
 {
     if party == 0 {
-        return SharedConstant::Share(RssShare { si: value, sii: 0 });
+        return Ok(RssShare { si: value, sii: 0 });
     }
     if party == 1 {
-        return SharedConstant::Share(RssShare { si: 0, sii: 0 });
+        return Ok(RssShare { si: 0, sii: 0 });
     }
     if party == 2 {
-        return SharedConstant::Share(RssShare { si: 0, sii: value });
+        return Ok(RssShare { si: 0, sii: value });
     }
-    SharedConstant::Refused(Answer::Party)
+    Err(Refusal::Party)
 }
 
 // count bytes of s from place; none where they would run past the end.
