@@ -2,6 +2,7 @@
 use Rattle.std.specs.Prelude.{ℕ, zero, suc, ◌+◌, ◌*◌, ◌/◌, ◌%◌, ◌≤◌, ◌<◌, ◌≡◌, cond, List, leb, eqb, take, drop}
 use Rattle.rep3.specs.Tables.{si_part, sii_part}
 use Rattle.lists.specs.Lists.{chunk}
+use Rattle.joint.specs.declared.Alphas.{Alphas}
 
 -- the positions that are multiplied at a time
 unfoldable pub space_size : ℕ
@@ -45,6 +46,10 @@ abbrev pub three : List ℕ → List ℕ → List ℕ → ℕ → List ℕ
 three a b c zero = a
 three a b c (suc zero) = b
 three a b c (suc (suc p)) = c
+
+-- the alphas of party 0, 1, 2
+abbrev pub held : Alphas → ℕ → List ℕ
+held alphas = three alphas.a0.now alphas.a1.now alphas.a2.now
 
 -- n of each party's alphas from a place
 abbrev pub drawn : ℕ → ℕ → (ℕ → List ℕ) → ℕ → List ℕ

@@ -6,10 +6,10 @@ ghost use Rattle.std.specs.Prelude.{◌≡◌, ◌/◌, length};
 ghost use Rattle.rep3.specs.Answers.{number_of, when_done};
 ghost use Rattle.rep3.specs.Tables.{si_part, sii_part, six_parts, share_of};
 ghost use Rattle.halves.specs.Product.{first_half, product_of};
-ghost use Rattle.joint.specs.Joint.{joint_number, space_size, PartyFits, Exchanged, ExchangeFits, TablesFit, three, drawn};
+ghost use Rattle.joint.specs.Joint.{joint_number, space_size, PartyFits, Exchanged, ExchangeFits, TablesFit, three, held, drawn};
 
 use halves::{mul_first_half, take_message};
-use rep3::{Answer, message};
+use rep3::{Answer, Refusal, message};
 
 // The positions that are multiplied at a time: what an inversion takes of the stack hangs on it.
 pub const SPACE: usize = 256;
@@ -17,19 +17,19 @@ pub const SPACE: usize = 256;
 // The direction from which the messages of a product come.
 const NEXT: u32 = 0;
 
-// One party's outbox. Its length is all that is told of it: it is written before it is read.
-#[tactic(auto, unfolding(crate::specs::Joint::space_size))]
-fn outbox() -> [u8; SPACE]
-    ensures { length result ≡ space_size }
-{
-    [0; SPACE]
+// The alphas that the three parties draw from, each party's its own.
+#[derive(Clone, Copy)]
+pub struct Alphas<'a> {
+    pub a0: &'a [u8],
+    pub a1: &'a [u8],
+    pub a2: &'a [u8],
 }
 
 // Party p's first half, of its parts of the two tables, into its outbox.
 fn send(outbox: &mut [u8], x: &[u8], y: &[u8], alphas: &[u8], n: usize, p: usize) -> Answer
     requires { PartyFits n p (length outbox.old) (length x.now) (length y.now) (length alphas.now) }
-    ensures { (number_of result ≡ 0)
-        × (outbox.new ≡ first_half n (si_part n p x.now) (sii_part n p x.now) (si_part n p y.now) (sii_part n p y.now) alphas.now) }
+    ensures done { result ≡ Ok tt }
+    ensures bytes { outbox.new ≡ first_half n (si_part n p x.now) (sii_part n p x.now) (si_part n p y.now) (sii_part n p y.now) alphas.now }
 {
     let a = 2 * p * n;
     let b = a + n;
@@ -47,13 +47,14 @@ fn receive<'a>(
     p: usize,
 ) -> Answer
     requires { PartyFits n p (length own.now) (length out.old) (length out.old) (length next.now) }
-    ensures { (number_of result ≡ 0) × Exchanged n p own.now next.now out.old out.new }
+    ensures done { result ≡ Ok tt }
+    ensures parts { Exchanged n p own.now next.now out.old out.new }
 {
     let a = 2 * p * n;
     let b = a + n;
     let e = b + n;
     let kept = take_message(&mut out[a..b], own);
-    let Answer::Done = kept else {
+    let Ok(()) = kept else {
         return kept;
     };
     take_message(&mut out[b..e], message(next, previous, NEXT, 0, n))
@@ -62,48 +63,41 @@ fn receive<'a>(
 // Each party takes its message off the next party's outbox.
 fn exchange<'a>(out: &mut [u8], c0: &'a [u8], c1: &'a [u8], c2: &'a [u8], n: usize) -> Answer
     requires { ExchangeFits n (length out.old) (length c0.now) (length c1.now) (length c2.now) }
-    ensures { (number_of result ≡ 0) × (out.new ≡ six_parts (λ k. three c0.now c1.now c2.now (share_of k))) }
+    ensures done { result ≡ Ok tt }
+    ensures bytes { out.new ≡ six_parts (λ k. three c0.now c1.now c2.now (share_of k)) }
 {
     let taken0 = receive(out, c0, c1, c2, n, 0);
-    let Answer::Done = taken0 else {
+    let Ok(()) = taken0 else {
         return taken0;
     };
     let taken1 = receive(out, c1, c2, c0, n, 1);
-    let Answer::Done = taken1 else {
+    let Ok(()) = taken1 else {
         return taken1;
     };
     receive(out, c2, c0, c1, n, 2)
 }
 
 // The product of tables that fit.
-fn multiply(
-    out: &mut [u8],
-    x: &[u8],
-    y: &[u8],
-    a0: &[u8],
-    a1: &[u8],
-    a2: &[u8],
-    place: usize,
-    n: usize,
-) -> Answer
-    requires { TablesFit n place (length out.old) (length x.now) (length y.now) (length a0.now) (length a1.now) (length a2.now) }
-    ensures { (number_of result ≡ 0)
-        × (out.new ≡ product_of n x.now y.now (drawn place n (three a0.now a1.now a2.now))) }
+#[tactic(auto, unfolding(crate::specs::Joint::space_size))]
+fn multiply(out: &mut [u8], x: &[u8], y: &[u8], alphas: &Alphas, place: usize, n: usize) -> Answer
+    requires { TablesFit n place (length out.old) (length x.now) (length y.now) (length alphas.now.a0.now) (length alphas.now.a1.now) (length alphas.now.a2.now) }
+    ensures done { result ≡ Ok tt }
+    ensures bytes { out.new ≡ product_of n x.now y.now (drawn place n (held alphas.now)) }
 {
     let end = place + n;
-    let mut outbox0 = outbox();
-    let mut outbox1 = outbox();
-    let mut outbox2 = outbox();
-    let sent0 = send(&mut outbox0[0..n], x, y, &a0[place..end], n, 0);
-    let Answer::Done = sent0 else {
+    let mut outbox0 = [0; SPACE];
+    let mut outbox1 = [0; SPACE];
+    let mut outbox2 = [0; SPACE];
+    let sent0 = send(&mut outbox0[0..n], x, y, &alphas.a0[place..end], n, 0);
+    let Ok(()) = sent0 else {
         return sent0;
     };
-    let sent1 = send(&mut outbox1[0..n], x, y, &a1[place..end], n, 1);
-    let Answer::Done = sent1 else {
+    let sent1 = send(&mut outbox1[0..n], x, y, &alphas.a1[place..end], n, 1);
+    let Ok(()) = sent1 else {
         return sent1;
     };
-    let sent2 = send(&mut outbox2[0..n], x, y, &a2[place..end], n, 2);
-    let Answer::Done = sent2 else {
+    let sent2 = send(&mut outbox2[0..n], x, y, &alphas.a2[place..end], n, 2);
+    let Ok(()) = sent2 else {
         return sent2;
     };
     exchange(out, &outbox0[0..n], &outbox1[0..n], &outbox2[0..n], n)
@@ -122,57 +116,46 @@ fn joint_check(
     ensures { number_of result ≡ joint_number out x y a0 a1 a2 place }
 {
     if out % 6 != 0 {
-        return Answer::Length;
+        return Err(Refusal::Length);
     }
     if x != out {
-        return Answer::Length;
+        return Err(Refusal::Length);
     }
     if y != out {
-        return Answer::Length;
+        return Err(Refusal::Length);
     }
     if a1 != a0 {
-        return Answer::Length;
+        return Err(Refusal::Length);
     }
     if a2 != a0 {
-        return Answer::Length;
+        return Err(Refusal::Length);
     }
     if out / 6 > SPACE {
-        return Answer::TooMany;
+        return Err(Refusal::TooMany);
     }
     if place > a0 {
-        return Answer::Alphas;
+        return Err(Refusal::Alphas);
     }
     if out / 6 > a0 - place {
-        return Answer::Alphas;
+        return Err(Refusal::Alphas);
     }
-    Answer::Done
+    Ok(())
 }
 
 // The product of the share tables x and y, with as many of each party's alphas from a place as the tables have positions.
-pub fn mul_tables(
-    out: &mut [u8],
-    x: &[u8],
-    y: &[u8],
-    a0: &[u8],
-    a1: &[u8],
-    a2: &[u8],
-    place: usize,
-) -> Answer
-    ensures { (number_of result ≡ joint_number (length out.old) (length x.now) (length y.now) (length a0.now) (length a1.now) (length a2.now) place)
-        × (out.new ≡ when_done (number_of result) (product_of (length out.old / 6) x.now y.now (drawn place (length out.old / 6) (three a0.now a1.now a2.now))) out.old) }
+pub fn mul_tables(out: &mut [u8], x: &[u8], y: &[u8], alphas: &Alphas, place: usize) -> Answer
+    ensures number { number_of result ≡ joint_number (length out.old) (length x.now) (length y.now) (length alphas.now.a0.now) (length alphas.now.a1.now) (length alphas.now.a2.now) place }
+    ensures bytes { out.new ≡ when_done (number_of result) (product_of (length out.old / 6) x.now y.now (drawn place (length out.old / 6) (held alphas.now))) out.old }
 {
-    let answer = joint_check(
+    joint_check(
         out.len(),
         x.len(),
         y.len(),
-        a0.len(),
-        a1.len(),
-        a2.len(),
+        alphas.a0.len(),
+        alphas.a1.len(),
+        alphas.a2.len(),
         place,
-    );
-    let Answer::Done = answer else {
-        return answer;
-    };
+    )?;
     let n = out.len() / 6;
-    multiply(out, x, y, a0, a1, a2, place, n)
+    multiply(out, x, y, alphas, place, n)
 }

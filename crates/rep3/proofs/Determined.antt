@@ -2,11 +2,11 @@
 -- docs/PROMISES.md shows for each operation that no second answer would satisfy its promise. Assumes nothing.
 use mathlib.Core.Path.{◌≡◌, refl, sym, ap, ◌∙◌}
 use mathlib.Core.List.{List, [], ◌∷◌}
-use native.Mathlib.Omega.{arith}
 use Prim.Native.Nat.{ℕ}
 use lib.ListN.{get_or}
 use Rattle.std.specs.Prelude.{Ok, Err}
 use Rattle.rep3.specs.Answers.{Answer, refusal_number, number_of, when_done}
+use Rattle.rep3.proofs.Refusals.{no_zero}
 use Rattle.rep3.specs.declared.Refusal.{Refusal}
 use Rattle.rep3.specs.declared.Refusal.TheVariants.{Length, TooMany, Message, Block, Keys, Alphas, Variant, Party, Round, Header, Mode, Count}
 
@@ -29,25 +29,11 @@ back Header = refl
 back Mode = refl
 back Count = refl
 
-no_zero : {X : Type 0} (r : Refusal) → 0 ≡ refusal_number r → X
-no_zero Length e = absurd (omega arith)
-no_zero TooMany e = absurd (omega arith)
-no_zero Message e = absurd (omega arith)
-no_zero Block e = absurd (omega arith)
-no_zero Keys e = absurd (omega arith)
-no_zero Alphas e = absurd (omega arith)
-no_zero Variant e = absurd (omega arith)
-no_zero Party e = absurd (omega arith)
-no_zero Round e = absurd (omega arith)
-no_zero Header e = absurd (omega arith)
-no_zero Mode e = absurd (omega arith)
-no_zero Count e = absurd (omega arith)
-
 -- a number has one answer
 pub same_answer : (a b : Answer) → number_of a ≡ number_of b → a ≡ b
 same_answer (Ok x) (Ok y) e = refl
-same_answer (Ok x) (Err r) e = no_zero r e
-same_answer (Err r) (Ok x) e = no_zero r (sym e)
+same_answer (Ok x) (Err r) e = no_zero r (sym e)
+same_answer (Err r) (Ok x) e = no_zero r e
 same_answer (Err r) (Err q) e = ap Err (sym (back r) ∙ ap refusal_of e ∙ back q)
 
 -- the promise: the answer's number is k, and the lent list is new where k is 0 and otherwise old

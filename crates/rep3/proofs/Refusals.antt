@@ -1,10 +1,13 @@
 -- What a chain of refusals that gives 0 shows, and that a refusal leaves a list as it was. Assumes nothing.
-use mathlib.Core.Path.{◌≡◌, refl}
+use mathlib.Core.Path.{◌≡◌, refl, ◌∙◌}
 use mathlib.Core.List.{List}
 use mathlib.Core.Bool.{Bool, true, false, cond}
 use native.Mathlib.Omega.{arith}
 use Prim.Native.Nat.{ℕ, zero, suc, ◌<◌}
-use Rattle.rep3.specs.Answers.{when_done}
+use Rattle.std.specs.Prelude.{Ok, Err}
+use Rattle.rep3.specs.Answers.{Answer, refusal_number, number_of, when_done}
+use Rattle.rep3.specs.declared.Refusal.{Refusal}
+use Rattle.rep3.specs.declared.Refusal.TheVariants.{Length, TooMany, Message, Block, Keys, Alphas, Variant, Party, Round, Header, Mode, Count}
 
 kept : (n : ℕ) (new old : List ℕ) → 0 < n → when_done n new old ≡ old
 kept zero new old h = absurd (omega arith)
@@ -14,3 +17,27 @@ kept (suc n) new old h = refl
 pub passed : (t : Bool) (rest k : ℕ) → cond t rest (suc k) ≡ 0 → (t ≡ true) × (rest ≡ 0)
 passed true rest k e = (refl, e)
 passed false rest k e = absurd (omega arith)
+
+pub no_zero : {X : Type 0} (r : Refusal) → refusal_number r ≡ 0 → X
+no_zero Length e = absurd (omega arith)
+no_zero TooMany e = absurd (omega arith)
+no_zero Message e = absurd (omega arith)
+no_zero Block e = absurd (omega arith)
+no_zero Keys e = absurd (omega arith)
+no_zero Alphas e = absurd (omega arith)
+no_zero Variant e = absurd (omega arith)
+no_zero Party e = absurd (omega arith)
+no_zero Round e = absurd (omega arith)
+no_zero Header e = absurd (omega arith)
+no_zero Mode e = absurd (omega arith)
+no_zero Count e = absurd (omega arith)
+
+-- the number 0 is no refusal's
+pub is_done : (r : Answer) → number_of r ≡ 0 → r ≡ Ok tt
+is_done (Ok x) e = refl
+is_done (Err r) e = no_zero r e
+
+-- a called step whose number comes to 0 is done, and left the new list
+pub step-done : (r : Answer) (k : ℕ) (new old xs : List ℕ) → k ≡ 0 → number_of r ≡ k → xs ≡ when_done (number_of r) new old
+    → (r ≡ Ok tt) × (xs ≡ new)
+step-done r k new old xs z e h = (is_done r (e ∙ z), rw (e ∙ z) at h)

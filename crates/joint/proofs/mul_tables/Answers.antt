@@ -4,4 +4,4 @@ use Rattle.joint.proofs.JointProduct.{joint_fits}
 use Rattle.joint.proofs.mul_tables.Goals as goal
 
 pub multiply-requires : goal.multiply-requires
-multiply-requires c = joint_fits _ _ _ _ _ _ _ (sym c.in-Done.ensures)
+multiply-requires c = joint_fits _ _ _ _ _ _ _ (sym c.in_ok-joint_check.ensures)
