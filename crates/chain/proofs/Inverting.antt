@@ -8,63 +8,56 @@ use lib.Dec.{leb, eqb}
 use lib.ListN.{length, take}
 use lib.Seq.{length-take-le}
 use borrow.Author.Tests.{eqb-true, leb-true, eq-eqb, le-leb}
-use Rattle.rep3.proofs.Refusals.{passed}
+use Rattle.rep3.proofs.Refusals.{passed, step-done}
 use Rattle.fips197.specs.Field.{square}
 use Rattle.halves.specs.Product.{product_of}
 use Rattle.chain.specs.Chain.{chain_of, inversion_need, most_inversion}
-use Rattle.chain.specs.Powers.{PositionsFit, chain_number}
+use Rattle.chain.specs.Powers.{AlphasFit, chain_number}
+use Rattle.chain.specs.declared.Positions.{Positions}
 use Rattle.joint.specs.Joint.{joint_number, space_size, TablesFit, three, drawn}
 use Rattle.joint.proofs.JointProduct.{fits_joint}
-use Rattle.rep3.specs.Answers.{number_of, when_done}
-use Rattle.rep3.specs.declared.Answer.{Answer}
+use Rattle.std.specs.Prelude.{Ok}
+use Rattle.rep3.specs.Answers.{Answer, number_of, when_done}
 
--- the numbers that positions which fit are, for arithmetic
+-- m positions of n from s, and each party's alphas for all n, as numbers
 pub record Counted (n s m a0 a1 a2 : ℕ) : Type 0 where
+  pub space : m ≤ space_size
+  pub within : s + m ≤ n
+  pub most : n ≤ 65536
   pub first : a0 ≡ 4 * n
   pub second : a1 ≡ 4 * n
   pub third : a2 ≡ 4 * n
-  pub within : s + m ≤ n
-  pub most : n ≤ 65536
 
-pub counted : {n s m a0 a1 a2 : ℕ} → PositionsFit n s m a0 a1 a2 → Counted n s m a0 a1 a2
+pub counted : (at : Positions) (a0 a1 a2 : ℕ) → AlphasFit at.layer a0 a1 a2 → Counted at.layer at.from at.count a0 a1 a2
 unfolding inversion_need most_inversion
-counted f = record { first = f.first; second = f.second; third = f.third; within = f.within; most = f.most }
+counted at a0 a1 a2 f =
+    record { space = at.space; within = at.within; most = at.most; first = f.first; second = f.second; third = f.third }
 
 -- tables of m positions, and their alphas from a place that leaves m
-pub tables_fit : (n s m place o x y a0 a1 a2 : ℕ) → PositionsFit n s m a0 a1 a2 → o ≡ 6 * m → x ≡ 6 * m → y ≡ 6 * m → place + m ≤ 4 * n
+pub tables_fit : (n s m place o x y a0 a1 a2 : ℕ) → Counted n s m a0 a1 a2 → o ≡ 6 * m → x ≡ 6 * m → y ≡ 6 * m → place + m ≤ 4 * n
     → TablesFit m place o x y a0 a1 a2
 tables_fit n s m place o x y a0 a1 a2 f po px py h =
-    let k = counted f in
     record {
       space = f.space;
       out = po;
       left = px;
       right = py;
-      first = omega (arith, k.first);
-      second = omega (arith, k.second);
-      third = omega (arith, k.third);
+      first = omega (arith, f.first);
+      second = omega (arith, f.second);
+      third = omega (arith, f.third);
     }
 
--- such a product is not refused
-pub multiplied : (m place : ℕ) (r : Answer) (out x y a0 a1 a2 new : List ℕ)
-    → TablesFit m place (length out) (length x) (length y) (length a0) (length a1) (length a2) → length a1 ≡ length a0 → length a2 ≡ length a0
-    → (number_of r ≡ joint_number (length out) (length x) (length y) (length a0) (length a1) (length a2) place)
-    × (new ≡ when_done (number_of r) (product_of (length out / 6) x y (drawn place (length out / 6) (three a0 a1 a2))) out)
-    → (number_of r ≡ 0) × (new ≡ product_of m x y (drawn place m (three a0 a1 a2)))
-multiplied m place r out x y a0 a1 a2 new f g h e =
-    let j = fits_joint m place (length out) (length x) (length y) (length a0) (length a1) (length a2) f g h in
-    let z : number_of r ≡ 0 = e.0 ∙ j.1 in
-    (z, rw (z, j.0) at e.1)
-
--- and so none of the chain's: its tables have m positions, and the layer's 4 n alphas leave m from the place
-pub product-done : (n s m place : ℕ) (r : Answer) (out x y a0 a1 a2 new : List ℕ) → PositionsFit n s m (length a0) (length a1) (length a2)
+-- none of the chain's products is refused: its tables have m positions, and the layer's 4 n alphas leave m from the place
+pub product-done : (n s m place : ℕ) (r : Answer) (out x y a0 a1 a2 new : List ℕ) → Counted n s m (length a0) (length a1) (length a2)
     → length out ≡ 6 * m → length x ≡ 6 * m → length y ≡ 6 * m → place + m ≤ 4 * n
-    → (number_of r ≡ joint_number (length out) (length x) (length y) (length a0) (length a1) (length a2) place)
-    × (new ≡ when_done (number_of r) (product_of (length out / 6) x y (drawn place (length out / 6) (three a0 a1 a2))) out)
-    → (number_of r ≡ 0) × (new ≡ product_of m x y (drawn place m (three a0 a1 a2)))
-product-done n s m place r out x y a0 a1 a2 new f lo lx ly h e =
-    let q = counted f in
-    multiplied m place r out x y a0 a1 a2 new (tables_fit n s m place _ _ _ _ _ _ f lo lx ly h) (q.second ∙ sym q.first) (q.third ∙ sym q.first) e
+    → number_of r ≡ joint_number (length out) (length x) (length y) (length a0) (length a1) (length a2) place
+    → new ≡ when_done (number_of r) (product_of (length out / 6) x y (drawn place (length out / 6) (three a0 a1 a2))) out
+    → (r ≡ Ok tt) × (new ≡ product_of m x y (drawn place m (three a0 a1 a2)))
+product-done n s m place r out x y a0 a1 a2 new f lo lx ly h e g =
+    let t = tables_fit n s m place _ _ _ _ _ _ f lo lx ly h in
+    let j = fits_joint m place (length out) (length x) (length y) (length a0) (length a1) (length a2) t (f.second ∙ sym f.first) (f.third ∙ sym f.first) in
+    let d = step-done r _ _ out new j.1 e g in
+    (d.0, rw j.0 at d.1)
 
 -- the chain, from what each of its steps left
 chain_made : (m n s : ℕ) (a : ℕ → List ℕ) (x x2 x3 x6 x12 x15 x14 x240 r : List ℕ)
@@ -87,8 +80,8 @@ chained m n s a0 a1 a2 = chain_made m n s (three a0 a1 a2)
 
 -- ---- lengths that are not refused
 
-pub chain_fits : (x a0 a1 a2 n s : ℕ) → chain_number x a0 a1 a2 n s ≡ 0 → (x ≡ 6 * (x / 6)) × PositionsFit n s (x / 6) a0 a1 a2
-unfolding chain_number
+pub chain_fits : (x a0 a1 a2 n s : ℕ) → chain_number x a0 a1 a2 n s ≡ 0 → (x ≡ 6 * (x / 6)) × Counted n s (x / 6) a0 a1 a2
+unfolding chain_number inversion_need most_inversion
 chain_fits x a0 a1 a2 n s e =
     let p = passed (eqb (x % 6) 0) _ 0 e in
     let q = passed (leb (x / 6) space_size) _ 1 p.1 in
@@ -110,8 +103,8 @@ chain_fits x a0 a1 a2 n s e =
     )
 
 -- and the other way round
-pub fits-chain : (m x a0 a1 a2 n s : ℕ) → x ≡ 6 * m → PositionsFit n s m a0 a1 a2 → (x / 6 ≡ m) × (chain_number x a0 a1 a2 n s ≡ 0)
-unfolding chain_number
+pub fits-chain : (m x a0 a1 a2 n s : ℕ) → x ≡ 6 * m → Counted n s m a0 a1 a2 → (x / 6 ≡ m) × (chain_number x a0 a1 a2 n s ≡ 0)
+unfolding chain_number inversion_need most_inversion
 fits-chain m x a0 a1 a2 n s e f =
     let d : x / 6 ≡ m = omega arith in
     let z : x % 6 ≡ 0 = omega arith in
@@ -119,16 +112,17 @@ fits-chain m x a0 a1 a2 n s e f =
     let v : s + x / 6 ≤ n = rw d f.within in
     (d, simp (eq-eqb _ _ z, le-leb _ _ u, le-leb _ _ f.most, le-leb _ _ v, eq-eqb _ _ f.first, eq-eqb _ _ f.second, eq-eqb _ _ f.third))
 
--- the first x bytes of a table of the most positions
-pub table_front : (x m : ℕ) (o : List ℕ) → x ≡ 6 * m → length o ≡ 6 * space_size → m ≤ space_size → length (take (x - 0) o) ≡ 6 * m
+-- the first x bytes of a table of as many positions as are inverted at a time
+pub table_front : (x m : ℕ) (o : List ℕ) → x ≡ 6 * m → length o ≡ 1536 → m ≤ space_size → length (take (x - 0) o) ≡ 6 * m
+unfolding space_size
 table_front x m o e l h = rw sub-zero (length-take-le x o (omega (arith, l)) ∙ e)
 
 -- such an inversion is not refused
-pub inverted : (m n s : ℕ) (r : Answer) (x a0 a1 a2 new : List ℕ) → length x ≡ 6 * m → PositionsFit n s m (length a0) (length a1) (length a2)
-    → (number_of r ≡ chain_number (length x) (length a0) (length a1) (length a2) n s)
-    × (new ≡ when_done (number_of r) (chain_of (length x / 6) (λ u. drawn (u * n + s) (length x / 6) (three a0 a1 a2)) x) x)
-    → (number_of r ≡ 0) × (new ≡ chain_of m (λ u. drawn (u * n + s) m (three a0 a1 a2)) x)
-inverted m n s r x a0 a1 a2 new l f e =
+pub inverted : (m n s : ℕ) (r : Answer) (x a0 a1 a2 new : List ℕ) → length x ≡ 6 * m → Counted n s m (length a0) (length a1) (length a2)
+    → number_of r ≡ chain_number (length x) (length a0) (length a1) (length a2) n s
+    → new ≡ when_done (number_of r) (chain_of (length x / 6) (λ u. drawn (u * n + s) (length x / 6) (three a0 a1 a2)) x) x
+    → (r ≡ Ok tt) × (new ≡ chain_of m (λ u. drawn (u * n + s) m (three a0 a1 a2)) x)
+inverted m n s r x a0 a1 a2 new l f e g =
     let j = fits-chain m (length x) (length a0) (length a1) (length a2) n s l f in
-    let z : number_of r ≡ 0 = e.0 ∙ j.1 in
-    (z, rw (z, j.0) at e.1)
+    let d = step-done r _ _ x new j.1 e g in
+    (d.0, rw j.0 at d.1)

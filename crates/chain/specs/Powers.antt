@@ -1,13 +1,10 @@
 -- What the inner steps of the chain are given, and when it is refused. Assumes nothing.
-use Rattle.std.specs.Prelude.{ℕ, ◌+◌, ◌*◌, ◌/◌, ◌%◌, ◌≤◌, ◌≡◌, cond, leb, eqb}
+use Rattle.std.specs.Prelude.{ℕ, ◌+◌, ◌*◌, ◌/◌, ◌%◌, ◌≡◌, cond, leb, eqb}
 use Rattle.joint.specs.Joint.{space_size}
 use Rattle.chain.specs.Chain.{inversion_need, most_inversion}
 
--- m positions of n from s, and the 4 n alphas of each party
-pub record PositionsFit (n s m a0 a1 a2 : ℕ) : Type 0 where
-  pub space : m ≤ space_size
-  pub within : s + m ≤ n
-  pub most : n ≤ most_inversion
+-- the 4 n alphas of each party for a layer of n positions
+pub record AlphasFit (n a0 a1 a2 : ℕ) : Type 0 where
   pub first : a0 ≡ inversion_need n
   pub second : a1 ≡ inversion_need n
   pub third : a2 ≡ inversion_need n
