@@ -12,8 +12,7 @@ use Rattle.lists.proofs.Puts.{part-long}
 use Rattle.lists.proofs.Chunks.{apart, part-chunk}
 use Rattle.chain.specs.Chain.{chain_of, inversion_need, most_inversion}
 use Rattle.chida.specs.Inversion.{inversion_of, inversion_number}
-use Rattle.joint.specs.Joint.{space_size, three, drawn}
-use Rattle.chain.specs.Powers.{PositionsFit}
+use Rattle.joint.specs.Joint.{three, drawn}
 use Rattle.chida.specs.Positions.{parties_number, cut, stored}
 use Rattle.chida.proofs.OpensInversion.{length-inversion_of}
 use Rattle.chida.proofs.Cut.{cut_inversion, chain-alphas}
@@ -45,10 +44,6 @@ parties_fit t a0 a1 a2 e =
       second = eqb-true _ _ s.0;
       third = eqb-true _ _ u.0;
     }
-
-pub positions_fit : (n s m t a0 a1 a2 : ℕ) → PartiesFit n t a0 a1 a2 → s + m ≤ n → m ≤ 256 → PositionsFit n s m a0 a1 a2
-unfolding space_size
-positions_fit n s m t a0 a1 a2 f h g = record { space = g; within = h; most = f.most; first = f.first; second = f.second; third = f.third }
 
 -- the thirds of a buffer that is not refused are not refused
 pub record BufferFits (n t k : ℕ) : Type 0 where

@@ -3,3 +3,4 @@ pub mod OpensInversion
 pub mod Cut
 pub mod Positions
 pub mod InversionLayer
+pub mod Turns

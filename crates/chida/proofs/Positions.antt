@@ -11,20 +11,21 @@ use Rattle.lists.proofs.Joined.{Each, length-joined, chunk-joined, joined_cong, 
 use Rattle.lists.proofs.Parts.{length_part, part_of-chunk}
 use Rattle.rep3.specs.Tables.{six_parts}
 use Rattle.chain.specs.Chain.{most_inversion}
-use Rattle.chida.specs.Positions.{LoadFits, cut, pasted, stored}
+use Rattle.chain.specs.declared.Positions.{Positions}
+use Rattle.chida.specs.Positions.{cut, pasted, stored}
 use Rattle.chida.proofs.Cut.{chunk-cut}
 
 -- ---- one turn of a loop over the six parts
 
-pub record Turn (n s m k : ℕ) : Type 0 where
+pub record Ranges (n s m k : ℕ) : Type 0 where
   pub small : k * m + m ≤ 6 * m
   pub large : k * n + n ≤ 6 * n
   pub within : s + m ≤ n
   pub most : n ≤ 65536
 
-pub turn : (n s m x t k : ℕ) → LoadFits n s m x t → k < 6 → Turn n s m k
+pub ranges_of : (at : Positions) (k : ℕ) → k < 6 → Ranges at.layer at.from at.count k
 unfolding most_inversion
-turn n s m x t k f h = record { small = apart m k 6 h; large = apart n k 6 h; within = f.within; most = f.most }
+ranges_of at k h = record { small = apart at.count k 6 h; large = apart at.layer k 6 h; within = at.within; most = at.most }
 
 -- what is loaded of part k
 pub loaded : (n s m k c d : ℕ) (t : List ℕ) → c ≡ k * n + s → d ≡ c + m → s + m ≤ n → take (d - c) (drop c t) ≡ take m (drop s (chunk n k t))

@@ -1,15 +1,13 @@
 -- Some positions of a table taken out and put back, and when an inversion with each party's alphas lent apart is refused. Assumes nothing.
-use Rattle.std.specs.Prelude.{ℕ, ◌+◌, ◌*◌, ◌/◌, ◌%◌, ◌≤◌, ◌≡◌, cond, List, ◌++◌, leb, eqb, length, take, drop}
+use Rattle.std.specs.Prelude.{ℕ, ◌*◌, ◌/◌, ◌%◌, ◌≡◌, cond, List, ◌++◌, leb, eqb, length, take, drop}
 use Rattle.lists.specs.Lists.{chunk}
 use Rattle.rep3.specs.Tables.{six_parts}
 use Rattle.chain.specs.Chain.{inversion_need, most_inversion}
 
--- a table of m positions, and one of n in which it stands from s
-pub record LoadFits (n s m x table : ℕ) : Type 0 where
-  pub small : x ≡ 6 * m
+-- a table of n positions, and one of m
+pub record PartsFit (n m table x : ℕ) : Type 0 where
   pub large : table ≡ 6 * n
-  pub within : s + m ≤ n
-  pub most : n ≤ most_inversion
+  pub small : x ≡ 6 * m
 
 -- the m positions of a table of n from s
 unfoldable pub cut : ℕ → ℕ → ℕ → List ℕ → List ℕ

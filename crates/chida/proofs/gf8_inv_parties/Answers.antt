@@ -1,21 +1,34 @@
 -- `chida::gf8_inv_parties` meets its contract. Assumes nothing.
-use Rattle.std.proofs.Common.{sym, arith}
-use Rattle.chida.proofs.InversionLayer.{parties_fit, positions_fit, inverted_start, inverted-more, inverted_end, inverted-long}
+use Rattle.std.proofs.Common.{sym}
+use Rattle.joint.specs.Joint.{space_size}
+use Rattle.chida.proofs.Turns.{turn_of, turns_start, turns_end}
+use Rattle.chida.proofs.InversionLayer.{parties_fit, inverted_start, inverted-more, inverted_end, inverted-long}
 use Rattle.chida.proofs.gf8_inv_parties.Goals as goal
 
-pub loop-s-init : goal.loop-s-init
-loop-s-init c = let f = parties_fit _ _ _ _ (sym c.in-Done.ensures) in (f, inverted_start _ _ _ f.table)
+pub loop-k-init : goal.loop-k-init
+loop-k-init c =
+    let f = parties_fit _ _ _ _ (sym c.in_ok-parties_check.ensures) in
+    (f, rw (turns_start _) (inverted_start _ _ _ f.table))
+
+pub invariant_of-at : goal.invariant_of-at
+unfolding space_size
+invariant_of-at c =
+    let t = turn_of _ c.loop-k.k _ _ c.div_ceil-k-end.ensures c.loop-k-test.true c.min.ensures in
+    record { space = t.few; within = t.within; most = c.loop-k.invariant.0.most }
 
 pub invert_positions-step-requires : goal.invert_positions-step-requires
 invert_positions-step-requires c =
-    let l = c.loop-s.invariant in
-    (inverted-long _ _ _ _ _ l.1, positions_fit _ _ _ _ _ _ _ l.0 (omega arith) c.least-m.ensures.1)
+    let f = c.loop-k.invariant.0 in
+    record {
+      long = inverted-long _ _ _ _ _ c.loop-k.invariant.1;
+      alphas_fit = record { first = f.first; second = f.second; third = f.third };
+    }
 
-pub loop-s-preserved : goal.loop-s-preserved
-loop-s-preserved c =
-    let l = c.loop-s in
-    let g = c.least-m.ensures in
-    (l.invariant.0, inverted-more _ _ _ _ _ l.invariant.1 _ (omega (arith, g)) _ c.invert_positions-step.ensures.1)
+pub loop-k-preserved : goal.loop-k-preserved
+loop-k-preserved c =
+    let t = turn_of _ c.loop-k.k _ _ c.div_ceil-k-end.ensures c.loop-k-test.true c.min.ensures in
+    let i = rw t.begins at c.loop-k.invariant.1 in
+    (c.loop-k.invariant.0, rw (← t.ends) (inverted-more _ _ _ _ _ i _ t.within _ c.invert_positions-step.ensures.bytes))
 
-pub returns : goal.returns
-returns c = (c.in-Done.ensures, inverted_end _ _ _ _ _ c.loop-s.invariant.1 (omega arith))
+pub returns-clause-bytes : goal.returns-clause-bytes
+returns-clause-bytes c = inverted_end _ _ _ _ _ c.loop-k.invariant.1 (turns_end _ _ _ c.div_ceil-k-end.ensures c.loop-k-test.false)

@@ -5,4 +5,4 @@ use Rattle.lists.proofs.Putting.{Putting}
 use Rattle.chida.proofs.load.Given as goal
 
 abbrev pub invariant-loop-k : goal.invariant-loop-k
-invariant-loop-k l = Putting l.m 6 (λ i. take l.m (drop l.s (chunk l.n i l.table))) l.initial.x l.k l.x
+invariant-loop-k l = Putting l.at.count 6 (λ i. take l.at.count (drop l.at.from (chunk l.at.layer i l.table))) l.initial.x l.k l.x

@@ -6,5 +6,5 @@ use Rattle.chida.proofs.paste.Goals as goal
 pub returns : goal.returns
 returns c =
     let s = c.args in
-    ap (λ (l : List ℕ). take s.s s.part.now ++ (l ++ drop (s.s + length s.ys.now - s.s) (drop s.s s.part.now))) c.copy.ensures
+    ap (λ (l : List ℕ). take s.s s.part.now ++ (l ++ drop (s.s + length s.ys.now - s.s) (drop s.s s.part.now))) c.copy_from_slice.ensures.after
     ∙ pasted-is _ _ _ _ refl

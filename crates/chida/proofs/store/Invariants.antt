@@ -5,4 +5,4 @@ use Rattle.chida.specs.Positions.{pasted}
 use Rattle.chida.proofs.store.Given as goal
 
 abbrev pub invariant-loop-k : goal.invariant-loop-k
-invariant-loop-k l = Putting l.n 6 (λ i. pasted l.s (chunk l.m i l.x) (chunk l.n i l.initial.table)) l.initial.table l.k l.table
+invariant-loop-k l = Putting l.at.layer 6 (λ i. pasted l.at.from (chunk l.at.count i l.x) (chunk l.at.layer i l.initial.table)) l.initial.table l.k l.table
