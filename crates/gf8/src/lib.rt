@@ -13,6 +13,9 @@ ghost use Rattle.fips197.specs.Field.{◌⊕◌, ◌·◌};
 // The degree-8 polynomial of the field without its highest term: x^8 is x^4 + x^3 + x + 1.
 const REDUCTION: u8 = 0x1b;
 
+// The constant of the S-box's affine map, which the map's table leaves to the caller.
+pub const AFFINE_CONSTANT: u8 = 0x63;
+
 // The bits of a byte, and so the terms of a product.
 const BITS: u32 = 8;
 
@@ -58,7 +61,7 @@ pub fn square(a: u8) -> u8
     square_table::TABLE[a as usize]
 }
 
-// The affine map of the S-box without its constant: 0x63 is the caller's to add, as a shared constant.
+// The affine map of the S-box without its constant, which is the caller's to add, as a shared one.
 pub fn aes_sbox_affine_transform(a: u8) -> u8
     ensures { result ≡ field.affine a }
 {

@@ -4,10 +4,8 @@ ghost use Rattle.rep3.specs.Answers.{number_of};
 ghost use Rattle.needs.specs.Keys.{half_number, half_index, half_of};
 
 use super::{CIPHER, has_variant, key_table_bytes, rounds_of};
-use rep3::Answer;
-
-// A round key's bytes in one part of a key table.
-const KEY_BYTES: usize = 16;
+use layers::BLOCK_BYTES;
+use rep3::{Answer, Refusal};
 
 const LAST_PARTY: u32 = 2;
 
@@ -17,18 +15,18 @@ fn half_check(variant: u32, keys: usize, party: u32, round: u32) -> Answer
     ensures { number_of result ≡ half_number variant keys party round }
 {
     if !has_variant(CIPHER, variant) {
-        return Answer::Variant;
+        return Err(Refusal::Variant);
     }
     if keys != key_table_bytes(variant) {
-        return Answer::Keys;
+        return Err(Refusal::Keys);
     }
     if party > LAST_PARTY {
-        return Answer::Party;
+        return Err(Refusal::Party);
     }
     if round as usize > rounds_of(variant) {
-        return Answer::Round;
+        return Err(Refusal::Round);
     }
-    Answer::Done
+    Ok(())
 }
 
 // The part of a party's si, or of its sii.
@@ -37,10 +35,7 @@ fn half_index(party: u32, sii: bool) -> usize
     requires { party ≤ 2 }
     ensures { result ≡ half_index party sii }
 {
-    if sii {
-        return 2 * (party as usize) + 1;
-    }
-    2 * (party as usize)
+    2 * (party as usize) + usize::from(sii)
 }
 
 // Sixteen bytes of the key table, and none on a refusal.
@@ -54,13 +49,12 @@ pub fn round_key_half<'a>(
 ) -> &'a [u8]
     ensures { result.now ≡ half_of variant keys.now party sii round }
 {
-    let answer = half_check(variant, keys.len(), party, round);
-    let Answer::Done = answer else {
+    let Ok(()) = half_check(variant, keys.len(), party, round) else {
         return &keys[0..0];
     };
-    let width = KEY_BYTES * (rounds_of(variant) + 1);
-    let start = half_index(party, sii) * width + KEY_BYTES * (round as usize);
-    let end = start + KEY_BYTES;
+    let width = BLOCK_BYTES * (rounds_of(variant) + 1);
+    let start = half_index(party, sii) * width + BLOCK_BYTES * (round as usize);
+    let end = start + BLOCK_BYTES;
     &keys[start..end]
 }
 

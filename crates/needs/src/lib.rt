@@ -11,7 +11,8 @@ ghost use Rattle.needs.specs.Needs.{rounds_of, need_of, has_variant, key_table_b
 ghost use Rattle.needs.specs.Needed.{needed_of};
 
 pub use keys::{round_key_answer, round_key_half};
-use rep3::Answer;
+use layers::{MOST_BLOCKS, TABLE_BYTES, table_check};
+use rep3::{Answer, Refusal};
 
 const AES_128: u32 = 128;
 
@@ -24,11 +25,6 @@ pub const INVERSE: u32 = 1;
 
 const SCHEDULE: u32 = 2;
 
-// A block's bytes in a state table, and a round key's in a key table: sixteen in each of six parts.
-const TABLE_BYTES: usize = 96;
-
-const MOST_BLOCKS: usize = 4096;
-
 // The alphas of one party for a block of a run, and for a schedule.
 const BLOCK_NEED_128: usize = 640;
 
@@ -38,38 +34,27 @@ const SCHEDULE_NEED_128: usize = 160;
 
 const SCHEDULE_NEED_256: usize = 208;
 
-// The answer to the need question: the alphas of each party, or the refusal.
-#[derive(Clone, Copy)]
-pub enum Needed {
-    Count(u64),
-    Refused(Answer),
-}
-
 // The rounds of a variant, and 0 for a number that is none.
 #[tactic(auto, using(std::proofs::lemmas::Bool::Decides::nat_tests), unfolding(crate::specs::Needs::rounds_of))]
 pub fn rounds_of(variant: u32) -> usize
     ensures { result ≡ rounds_of variant }
 {
-    if variant == AES_128 {
-        return 10;
+    match variant {
+        AES_128 => 10,
+        AES_256 => 14,
+        _ => 0,
     }
-    if variant == AES_256 {
-        return 14;
-    }
-    0
 }
 
 #[tactic(auto, using(std::proofs::lemmas::Bool::Decides::nat_tests), unfolding(crate::specs::Needs::has_variant))]
 pub fn has_variant(kind: u32, variant: u32) -> bool
     ensures { result ≡ has_variant kind variant }
 {
-    if variant == AES_128 {
-        return true;
+    match variant {
+        AES_128 => true,
+        AES_256 => kind != INVERSE,
+        _ => false,
     }
-    if kind == INVERSE {
-        return false;
-    }
-    variant == AES_256
 }
 
 // The alphas of each party: the one place that has the figures, for the need question and for a run's own check.
@@ -102,48 +87,40 @@ fn need_check(kind: u32, variant: u32, blocks: usize) -> Answer
     ensures { number_of result ≡ need_number kind variant blocks }
 {
     if kind > SCHEDULE {
-        return Answer::Mode;
+        return Err(Refusal::Mode);
     }
     if !has_variant(kind, variant) {
-        return Answer::Variant;
+        return Err(Refusal::Variant);
     }
     if blocks > MOST_BLOCKS {
-        return Answer::TooMany;
+        return Err(Refusal::TooMany);
     }
-    Answer::Done
+    Ok(())
 }
 
 // The refusals of a run on a state table, a key table and an alpha buffer of so many bytes.
-#[tactic(auto, using(std::proofs::lemmas::Bool::Decides::nat_tests), unfolding(crate::specs::Needs::run_number))]
+#[tactic(auto, using(std::proofs::lemmas::Bool::Decides::nat_tests), unfolding(crate::specs::Needs::run_number, layers::specs::Layers::table_number))]
 pub fn run_check(kind: u32, variant: u32, state: usize, keys: usize, alphas: usize) -> Answer
     ensures { number_of result ≡ run_number kind variant state keys alphas }
 {
     if !has_variant(kind, variant) {
-        return Answer::Variant;
+        return Err(Refusal::Variant);
     }
-    if state % TABLE_BYTES != 0 {
-        return Answer::Block;
-    }
+    table_check(state)?;
     let blocks = state / TABLE_BYTES;
-    if blocks > MOST_BLOCKS {
-        return Answer::TooMany;
-    }
     if keys != key_table_bytes(variant) {
-        return Answer::Keys;
+        return Err(Refusal::Keys);
     }
     if alphas != 3 * need_of(kind, variant, blocks) {
-        return Answer::Alphas;
+        return Err(Refusal::Alphas);
     }
-    Answer::Done
+    Ok(())
 }
 
 // How many alphas each party needs for a run or a schedule of a variant on so many blocks.
-pub fn need(kind: u32, variant: u32, blocks: usize) -> Needed
+pub fn need(kind: u32, variant: u32, blocks: usize) -> Result<u64, Refusal>
     ensures { result ≡ needed_of kind variant blocks }
 {
-    let answer = need_check(kind, variant, blocks);
-    let Answer::Done = answer else {
-        return Needed::Refused(answer);
-    };
-    Needed::Count(need_of(kind, variant, blocks) as u64)
+    need_check(kind, variant, blocks)?;
+    Ok(need_of(kind, variant, blocks) as u64)
 }

@@ -1,40 +1,35 @@
 -- A promise that gives an answer's number, and a lent list by that number, leaves one outcome: two that meet it are equal. This is how
 -- docs/PROMISES.md shows for each operation that no second answer would satisfy its promise. Assumes nothing.
 use mathlib.Core.Path.{◌≡◌, refl, sym, ap, ◌∙◌}
-use mathlib.Core.List.{List, [], ◌∷◌}
+use mathlib.Core.List.{List}
 use Prim.Native.Nat.{ℕ}
-use lib.ListN.{get_or}
 use Rattle.std.specs.Prelude.{Ok, Err}
-use Rattle.rep3.specs.Answers.{Answer, refusal_number, number_of, when_done}
+use Rattle.rep3.specs.Answers.{Answer, refusal_of, refusal_number, number_of, when_done}
 use Rattle.rep3.proofs.Refusals.{no_zero}
 use Rattle.rep3.specs.declared.Refusal.{Refusal}
 use Rattle.rep3.specs.declared.Refusal.TheVariants.{Length, TooMany, Message, Block, Keys, Alphas, Variant, Party, Round, Header, Mode, Count}
 
-refusal_of : ℕ → Refusal
-refusal_of n =
-    get_or (Length ∷ Length ∷ TooMany ∷ Message ∷ Block ∷ Keys ∷ Alphas ∷ Variant ∷ Party ∷ Round ∷ Header ∷ Mode ∷ Count ∷ []) n Length
-
-back : (r : Refusal) → refusal_of (refusal_number r) ≡ r
+pub refusal-back : (r : Refusal) → refusal_of (refusal_number r) ≡ r
 unfolding refusal_of
-back Length = refl
-back TooMany = refl
-back Message = refl
-back Block = refl
-back Keys = refl
-back Alphas = refl
-back Variant = refl
-back Party = refl
-back Round = refl
-back Header = refl
-back Mode = refl
-back Count = refl
+refusal-back Length = refl
+refusal-back TooMany = refl
+refusal-back Message = refl
+refusal-back Block = refl
+refusal-back Keys = refl
+refusal-back Alphas = refl
+refusal-back Variant = refl
+refusal-back Party = refl
+refusal-back Round = refl
+refusal-back Header = refl
+refusal-back Mode = refl
+refusal-back Count = refl
 
 -- a number has one answer
 pub same_answer : (a b : Answer) → number_of a ≡ number_of b → a ≡ b
 same_answer (Ok x) (Ok y) e = refl
 same_answer (Ok x) (Err r) e = no_zero r (sym e)
 same_answer (Err r) (Ok x) e = no_zero r e
-same_answer (Err r) (Err q) e = ap Err (sym (back r) ∙ ap refusal_of e ∙ back q)
+same_answer (Err r) (Err q) e = ap Err (sym (refusal-back r) ∙ ap refusal_of e ∙ refusal-back q)
 
 -- the promise: the answer's number is k, and the lent list is new where k is 0 and otherwise old
 abbrev pub Promised : ℕ → List ℕ → List ℕ → Answer → List ℕ → Type 0

@@ -1,5 +1,5 @@
 -- The numbers of document 01, "Numbers that come back", and what a lent list holds after an answer. Assumes nothing.
-use Rattle.std.specs.Prelude.{ℕ, zero, suc, List, Result, Ok, Err}
+use Rattle.std.specs.Prelude.{ℕ, zero, suc, ◌-◌, List, [], ◌∷◌, get_or, Result, Ok, Err}
 use Rattle.rep3.specs.declared.Refusal.{Refusal}
 use Rattle.rep3.specs.declared.Refusal.TheVariants.{Length, TooMany, Message, Block, Keys, Alphas, Variant, Party, Round, Header, Mode, Count}
 
@@ -16,6 +16,11 @@ refusal_number Round = 9
 refusal_number Header = 10
 refusal_number Mode = 11
 refusal_number Count = 12
+
+-- the refusal that has a number from 1 to 12
+unfoldable pub refusal_of : ℕ → Refusal
+refusal_of n =
+    get_or (Length ∷ TooMany ∷ Message ∷ Block ∷ Keys ∷ Alphas ∷ Variant ∷ Party ∷ Round ∷ Header ∷ Mode ∷ Count ∷ []) (n - 1) Length
 
 -- a step is done, or refuses
 abbrev pub Answer : Type 0

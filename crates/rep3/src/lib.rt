@@ -93,16 +93,12 @@ pub struct RssShare {
 pub fn constant(party: u32, value: u8) -> Result<RssShare, Refusal>
     ensures { result ≡ constant_of party value }
 {
-    if party == 0 {
-        return Ok(RssShare { si: value, sii: 0 });
+    match party {
+        0 => Ok(RssShare { si: value, sii: 0 }),
+        1 => Ok(RssShare { si: 0, sii: 0 }),
+        2 => Ok(RssShare { si: 0, sii: value }),
+        _ => Err(Refusal::Party),
     }
-    if party == 1 {
-        return Ok(RssShare { si: 0, sii: 0 });
-    }
-    if party == 2 {
-        return Ok(RssShare { si: 0, sii: value });
-    }
-    Err(Refusal::Party)
 }
 
 // count bytes of s from place; none where they would run past the end.
@@ -133,11 +129,9 @@ pub fn message<'a>(
 ) -> &'a [u8]
     ensures { result.now ≡ message_of next.now previous.now direction place count }
 {
-    if direction == 0 {
-        return part_of(next, place, count);
+    match direction {
+        0 => part_of(next, place, count),
+        1 => part_of(previous, place, count),
+        _ => &next[0..0],
     }
-    if direction == 1 {
-        return part_of(previous, place, count);
-    }
-    &next[0..0]
 }

@@ -1,5 +1,5 @@
 -- An inversion depends on its alphas of parties 0, 1, 2 alone: on what is lent of each party's part of the buffer. Assumes nothing.
-use Prim.Native.Nat.{ℕ, zero, suc, ◌*◌, ◌/◌, ◌<◌}
+use Prim.Native.Nat.{ℕ, zero, suc, ◌<◌}
 use native.Mathlib.Omega.{arith}
 use mathlib.Core.Path.{◌≡◌, ap, fun_ext}
 use mathlib.Core.List.{List, map}
@@ -8,7 +8,6 @@ use Rattle.lists.specs.Lists.{chunk}
 use Rattle.lists.proofs.Joined.{joined_cong}
 use Rattle.rep3.specs.Tables.{si_part, sii_part, share_of}
 use Rattle.halves.specs.Product.{first_half, sent, product_of}
-use lib.ListN.{length}
 use Rattle.joint.specs.Joint.{three}
 use Rattle.chain.specs.Chain.{chain_of}
 use Rattle.chida.specs.Inversion.{inversion_of}
@@ -47,8 +46,6 @@ three_are β x y z a b c (suc zero) h = b
 three_are β x y z a b c (suc (suc zero)) h = c
 three_are β x y z a b c (suc (suc (suc p))) h = absurd (omega arith)
 
-pub lent-alphas : (n : ℕ) (β : ℕ → List ℕ) (xs x y z : List ℕ) → length xs ≡ 6 * n → x ≡ β 0 → y ≡ β 1 → z ≡ β 2
-    → inversion_of (length xs / 6) (three x y z) xs ≡ inversion_of n β xs
-lent-alphas n β xs x y z l a b c =
-    let e : length xs / 6 ≡ n = omega arith in
-    rw e (inversion-alphas n (three x y z) β (three_are β x y z a b c) xs)
+pub lent-alphas : (n : ℕ) (β : ℕ → List ℕ) (xs x y z : List ℕ) → x ≡ β 0 → y ≡ β 1 → z ≡ β 2
+    → inversion_of n (three x y z) xs ≡ inversion_of n β xs
+lent-alphas n β xs x y z a b c = inversion-alphas n (three x y z) β (three_are β x y z a b c) xs

@@ -1,4 +1,3 @@
-pub mod Tags
 pub mod PartMaps
 pub mod SubChunks
 pub mod Alphas

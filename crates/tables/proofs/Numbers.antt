@@ -7,7 +7,7 @@ use borrow.Author.Tests.{eqb-true, leb-true, ltb-true, eq-eqb, le-leb, lt-ltb}
 use Rattle.rep3.proofs.Refusals.{passed}
 use Rattle.layers.specs.Layers.{table_number}
 use Rattle.layers.proofs.Numbers.{table-passed}
-use Rattle.tables.specs.Fits.{PartFits, TableFits, KeyFits, AlphasFit}
+use Rattle.tables.specs.Fits.{PartFits, TableFits, KeyFits, BufferFits}
 use Rattle.tables.specs.Tables.{key_number, alphas_number}
 
 whole-table : (t : ℕ) → t % 96 ≡ 0 → t / 96 ≤ 4096 → TableFits (t / 6) t
@@ -27,7 +27,7 @@ key_fits t k r e =
     let l : r < k / 96 = ltb-true _ _ u.0 in
     record { table = whole-table t (eqb-true _ _ p.0) (leb-true _ _ q.0); keys = omega arith; round = omega arith }
 
-pub alphas_fit : (t a from : ℕ) → alphas_number t a from ≡ 0 → AlphasFit (t / 6) (a / 3) from t a
+pub alphas_fit : (t a from : ℕ) → alphas_number t a from ≡ 0 → TableFits (t / 6) t × BufferFits (t / 6) (a / 3) from a
 unfolding alphas_number
 alphas_fit t a from e =
     let p = passed (eqb (t % 96) 0) _ 3 e in
@@ -38,7 +38,7 @@ alphas_fit t a from e =
     let z : a % 3 ≡ 0 = eqb-true _ _ s.0 in
     let l : from ≤ a / 3 = leb-true _ _ u.0 in
     let m : 4 * (t / 6) ≤ a / 3 - from = leb-true _ _ v.0 in
-    record { table = whole-table t (eqb-true _ _ p.0) (leb-true _ _ q.0); alphas = omega arith; within = omega arith }
+    (whole-table t (eqb-true _ _ p.0) (leb-true _ _ q.0), record { alphas = omega arith; within = omega arith })
 
 -- ---- the way back
 

@@ -2,23 +2,21 @@
 use Prim.Native.Nat.{ℕ, zero, suc, ◌/◌, ◌<◌}
 use native.Mathlib.Omega.{arith}
 use mathlib.Core.Path.{◌≡◌, sym, ap, ◌∙◌}
-use mathlib.Core.Bool.{cond}
 use mathlib.Core.List.{List, map}
-use lib.Dec.{eqb}
 use lib.ListN.{length, get_or, length-map}
+use lib.Seq.{ext_get_or}
 use Rattle.fips197.specs.Field.{◌⊕◌}
 use Rattle.fips197.specs.State.{◌⊞◌}
 use Rattle.fips197.proofs.Vectors.{length_⊞, get_or_⊞}
 use Rattle.lists.specs.Lists.{tab}
-use Rattle.lists.proofs.Tabs.{length-tab, get_or-tab, tab-is, get_d_map}
+use Rattle.lists.proofs.Tabs.{length-tab, get_or-tab, get_d_map}
 use Rattle.rep3.specs.Shares.{constant_of}
 use Rattle.rep3.specs.Tables.{share_of}
 use Rattle.rep3.specs.declared.RssShare.{RssShare}
-use denote.Enum.Declared.{tag_of}
-use Rattle.rep3.specs.declared.SharedConstant.{SharedConstant}
-use Rattle.rep3.specs.contracts.SharedConstant.{the_type}
-use Rattle.rep3.specs.declared.SharedConstant.TheVariants.{Share}
-use Rattle.tables.specs.Fits.{half_held}
+use Rattle.rep3.specs.declared.Refusal.{Refusal}
+use Rattle.std.specs.Prelude.{Result, Ok}
+use Rattle.fips197.specs.Field.{affine_constant}
+use Rattle.tables.specs.Fits.{half_held, held_byte}
 
 -- c at each place
 abbrev const : ℕ → ℕ → List ℕ
@@ -32,45 +30,45 @@ module _ (f : ℕ → ℕ) (c : ℕ) (xs : List ℕ) where
   mapped = length-map xs f ∙ same
 
   -- f, and then c
-  pub map-then-add : tab (length xs) (λ i. f (get_or xs i 0) ⊕ c) ≡ map f xs ⊞ const (length xs) c
+  pub map-then-add : map (λ x. f x ⊕ c) xs ≡ map f xs ⊞ const (length xs) c
   map-then-add =
-      sym (tab-is (length xs) (λ i. f (get_or xs i 0) ⊕ c) (map f xs ⊞ const (length xs) c) (length_⊞ _ _ mapped ∙ length-map xs f)
-      (λ i h. get_or_⊞ (map f xs) (const (length xs) c) i mapped
-      ∙ ap (λ (x : ℕ). x ⊕ get_or (const (length xs) c) i 0) (get_d_map f xs i h)
-      ∙ ap (λ (x : ℕ). f (get_or xs i 0) ⊕ x) (get_or-tab (length xs) (λ _. c) i 0 h)))
+      ext_get_or 0 _ _ (length-map xs _ ∙ sym (length_⊞ _ _ mapped ∙ length-map xs f))
+      (λ i h. let q : i < length xs = rw length-map at h in
+      get_d_map (λ x. f x ⊕ c) xs i q
+      ∙ sym (get_or_⊞ (map f xs) (const (length xs) c) i mapped ∙ ap (λ (x : ℕ). x ⊕ get_or (const (length xs) c) i 0) (get_d_map f xs i q)
+      ∙ ap (λ (x : ℕ). f (get_or xs i 0) ⊕ x) (get_or-tab (length xs) (λ _. c) i 0 q)))
 
   added : length (xs ⊞ const (length xs) c) ≡ length xs
   added = length_⊞ xs (const (length xs) c) same
 
   -- c, and then f
-  pub add-then-map : tab (length xs) (λ i. f (get_or xs i 0 ⊕ c)) ≡ map f (xs ⊞ const (length xs) c)
+  pub add-then-map : map (λ x. f (x ⊕ c)) xs ≡ map f (xs ⊞ const (length xs) c)
   add-then-map =
-      sym (tab-is (length xs) (λ i. f (get_or xs i 0 ⊕ c)) (map f (xs ⊞ const (length xs) c)) (length-map (xs ⊞ const (length xs) c) f ∙ added)
-      (λ i h. get_d_map f (xs ⊞ const (length xs) c) i (omega (arith, added))
+      ext_get_or 0 _ _ (length-map xs _ ∙ sym (length-map (xs ⊞ const (length xs) c) f ∙ added))
+      (λ i h. let q : i < length xs = rw length-map at h in
+      get_d_map (λ x. f (x ⊕ c)) xs i q
+      ∙ sym (get_d_map f (xs ⊞ const (length xs) c) i (omega (arith, added))
       ∙ ap f (get_or_⊞ xs (const (length xs) c) i same)
-      ∙ ap (λ (x : ℕ). f (get_or xs i 0 ⊕ x)) (get_or-tab (length xs) (λ _. c) i 0 h)))
+      ∙ ap (λ (x : ℕ). f (get_or xs i 0 ⊕ x)) (get_or-tab (length xs) (λ _. c) i 0 q)))
 
--- the byte of the shared constant v that part k holds
-pub constant_held : (k v : ℕ) (s : RssShare) → k < 6 → Share s ≡ constant_of (k / 2) v → half_held s k ≡ cond (eqb (share_of k) 0) v 0
-unfolding constant_of share_of
-constant_held zero v s h e = let d : s.si ≡ v = cc in d
-constant_held (suc zero) v s h e = let d : s.sii ≡ 0 = cc in d
-constant_held (suc (suc zero)) v s h e = let d : s.si ≡ 0 = cc in d
-constant_held (suc (suc (suc zero))) v s h e = let d : s.sii ≡ 0 = cc in d
-constant_held (suc (suc (suc (suc zero)))) v s h e = let d : s.si ≡ 0 = cc in d
-constant_held (suc (suc (suc (suc (suc zero))))) v s h e = let d : s.sii ≡ v = cc in d
-constant_held (suc (suc (suc (suc (suc (suc k)))))) v s h e = absurd (omega arith)
-
--- a party of three is not refused
-pub constant-given : (k v : ℕ) → k < 6 → (r : SharedConstant) → r ≡ constant_of (k / 2) v → tag_of the_type r ≡ 1 → ⊥
+-- a party of three is given its share of the constant
+pub constant_given : (k : ℕ) → k < 6 → (r : Result RssShare Refusal) → r ≡ constant_of (k / 2) affine_constant → (s : RssShare) × (r ≡ Ok s)
 unfolding constant_of
-constant-given k v h r e t = given k h (ap (tag_of the_type) (sym e) ∙ t)
-  where
-    given : (k : ℕ) → k < 6 → tag_of the_type (constant_of (k / 2) v) ≡ 1 → ⊥
-    given zero h e = omega arith
-    given (suc zero) h e = omega arith
-    given (suc (suc zero)) h e = omega arith
-    given (suc (suc (suc zero))) h e = omega arith
-    given (suc (suc (suc (suc zero)))) h e = omega arith
-    given (suc (suc (suc (suc (suc zero))))) h e = omega arith
-    given (suc (suc (suc (suc (suc (suc k)))))) h e = omega arith
+constant_given zero h r e = (_, e)
+constant_given (suc zero) h r e = (_, e)
+constant_given (suc (suc zero)) h r e = (_, e)
+constant_given (suc (suc (suc zero))) h r e = (_, e)
+constant_given (suc (suc (suc (suc zero)))) h r e = (_, e)
+constant_given (suc (suc (suc (suc (suc zero))))) h r e = (_, e)
+constant_given (suc (suc (suc (suc (suc (suc k)))))) h r e = absurd (omega arith)
+
+-- and part k holds its byte of it
+pub constant_held : (k : ℕ) (s : RssShare) → k < 6 → Ok s ≡ constant_of (k / 2) affine_constant → half_held s k ≡ held_byte k
+unfolding constant_of share_of affine_constant
+constant_held zero s h e = let d : s.si ≡ 0x63 = cc in d
+constant_held (suc zero) s h e = let d : s.sii ≡ 0 = cc in d
+constant_held (suc (suc zero)) s h e = let d : s.si ≡ 0 = cc in d
+constant_held (suc (suc (suc zero))) s h e = let d : s.sii ≡ 0 = cc in d
+constant_held (suc (suc (suc (suc zero)))) s h e = let d : s.si ≡ 0 = cc in d
+constant_held (suc (suc (suc (suc (suc zero))))) s h e = let d : s.sii ≡ 0x63 = cc in d
+constant_held (suc (suc (suc (suc (suc (suc k)))))) s h e = absurd (omega arith)

@@ -1,5 +1,7 @@
 -- What the inner steps on a table are given. Assumes nothing.
 use Rattle.std.specs.Prelude.{ℕ, ◌+◌, ◌*◌, ◌/◌, ◌%◌, ◌≤◌, ◌≡◌, cond, eqb}
+use Rattle.fips197.specs.Field.{affine_constant}
+use Rattle.rep3.specs.Tables.{share_of}
 use Rattle.rep3.specs.declared.RssShare.{RssShare}
 use Rattle.layers.specs.Layers.{block_bytes, most_blocks}
 
@@ -19,12 +21,15 @@ pub record KeyFits (n w r t k : ℕ) : Type 0 where
   pub keys : k ≡ 6 * w
   pub round : r * 16 + 16 ≤ w
 
--- a state table of n positions, and an alpha buffer with parts of w, in each of which an inversion's alphas stand from a place
-pub record AlphasFit (n w from t a : ℕ) : Type 0 where
-  pub table : TableFits n t
+-- an alpha buffer with parts of w, in each of which an inversion's alphas for n positions stand from a place
+pub record BufferFits (n w from a : ℕ) : Type 0 where
   pub alphas : a ≡ 3 * w
   pub within : from + 4 * n ≤ w
 
 -- what part k holds of a party's share
 abbrev pub half_held : RssShare → ℕ → ℕ
 half_held s k = cond (eqb (k % 2) 0) s.si s.sii
+
+-- and of the shared 0x63: s_0 is the constant, and s_1 and s_2 are 0
+abbrev pub held_byte : ℕ → ℕ
+held_byte k = cond (eqb (share_of k) 0) affine_constant 0

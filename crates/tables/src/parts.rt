@@ -1,28 +1,19 @@
-// A layer on each of the six parts of a share table, a round key on each, and an inversion with the alphas from a place on. A part is lent
+// A layer on each of the six parts of a share table, a round key on each, and the alphas of an inversion from a place on. A part is lent
 // on, and a step's refusal goes up at once. Bytes are secret: nothing branches on them.
-ghost use Rattle.std.specs.Prelude.{◌≡◌, ◌+◌, ◌*◌, ◌≤◌, ◌<◌, map, length};
-ghost use Rattle.fips197.specs.Field as field;
-ghost use Rattle.fips197.specs.State.{◌⊞◌};
-ghost use Rattle.lists.specs.Lists.{tab};
-ghost use Rattle.rep3.specs.Answers.{number_of};
-ghost use Rattle.chida.specs.Inversion.{inversion_of};
-ghost use Rattle.tables.specs.Fits.{PartFits, TableFits, KeyFits, AlphasFit, half_held};
+ghost use Rattle.std.specs.Prelude.{◌≡◌, ℕ, ◌<◌, map, length};
+ghost use Rattle.chain.specs.Powers.{AlphasFit};
+ghost use Rattle.tables.specs.Fits.{PartFits, TableFits, KeyFits, BufferFits, half_held, held_byte};
 ghost use Rattle.tables.specs.Tables.{layer_of, on_table, key_added, alphas_from};
-ghost use Rattle.tables.specs.declared.parts.Layer.TheVariants as layer;
 
-use chida::gf8_inv_parties;
-use gf8::{add, aes_sbox_affine_transform, inv_aes_sbox_affine_transform};
-use rep3::{Answer, RssShare, SharedConstant, constant};
+use gf8::{AFFINE_CONSTANT, add, aes_sbox_affine_transform, inv_aes_sbox_affine_transform};
+use joint::Alphas;
+use layers::BLOCK_BYTES;
+use rep3::{Answer, Refusal, RssShare, constant};
 
 const PARTS: usize = 6;
 
-const KEY_BYTES: usize = 16;
-
-// The constant of the S-box's affine map.
-const AFFINE_CONSTANT: u8 = 0x63;
-
 // What each party does alone, to si and to sii alike. All know which layer is at work, so that a branch on it tells nothing.
-#[derive(Clone, Copy)]
+#[derive(Clone, Copy, Debug, PartialEq, Eq)]
 pub enum Layer {
     ShiftRows,
     InvShiftRows,
@@ -43,112 +34,95 @@ fn half_held(share: RssShare, k: usize) -> u8
     share.sii
 }
 
-// The affine map without its constant, and then c, on each byte.
-fn add_affine(part: &mut [u8], c: u8)
-    ensures { part.new ≡ map field.affine part.old ⊞ tab (length part.old) (λ _. c) }
-{
-    for j in 0..part.len() {
-        part[j] = add(aes_sbox_affine_transform(part[j]), c);
-    }
-}
-
-// c, and then the inverse affine map, on each byte.
-fn add_inv_affine(part: &mut [u8], c: u8)
-    ensures { part.new ≡ map field.inv_affine (part.old ⊞ tab (length part.old) (λ _. c)) }
-{
-    for j in 0..part.len() {
-        part[j] = inv_aes_sbox_affine_transform(add(part[j], c));
-    }
-}
-
-// The affine map on part k, with the shared constant.
-fn affine_part(part: &mut [u8], k: usize) -> Answer
-    requires { k < 6 }
-    ensures { (number_of result ≡ 0) × (part.new ≡ layer_of layer.Affine k part.old) }
+// f on each byte of part k, with what the part holds of the shared 0x63.
+fn with_constant<F: Fn(u8, u8) -> u8>(part: &mut [u8], k: usize, f: F) -> Answer
+    ghost gives: { ℕ → ℕ → ℕ }
+    requires part { k < 6 }
+    requires callable { F.IsAlwaysCallable f }
+    requires met { (x c y : ℕ) → F.post f x c y → y ≡ gives x c }
+    ensures done { result ≡ Ok tt }
+    ensures bytes { part.new ≡ map (λ x. gives x (held_byte k)) part.old }
 {
     let party = (k / 2) as u32;
-    let SharedConstant::Share(share) = constant(party, AFFINE_CONSTANT) else {
-        return Answer::Party;
+    let given = constant(party, AFFINE_CONSTANT);
+    let Ok(share) = given else {
+        return Err(Refusal::Party);
     };
-    add_affine(part, half_held(share, k));
-    Answer::Done
-}
-
-// The inverse affine map on part k, after the shared constant.
-fn inv_affine_part(part: &mut [u8], k: usize) -> Answer
-    requires { k < 6 }
-    ensures { (number_of result ≡ 0) × (part.new ≡ layer_of layer.InvAffine k part.old) }
-{
-    let party = (k / 2) as u32;
-    let SharedConstant::Share(share) = constant(party, AFFINE_CONSTANT) else {
-        return Answer::Party;
-    };
-    add_inv_affine(part, half_held(share, k));
-    Answer::Done
+    let c = half_held(share, k);
+    for x in part.iter_mut() {
+        *x = f(*x, c);
+    }
+    Ok(())
 }
 
 // A layer on part k.
 fn on_part(part: &mut [u8], layer: Layer, k: usize) -> Answer
-    requires { PartFits (length part.old) × (k < 6) }
-    ensures { (number_of result ≡ 0) × (part.new ≡ layer_of layer k part.old) }
+    requires part { k < 6 }
+    requires whole { PartFits (length part.old) }
+    ensures done { result ≡ Ok tt }
+    ensures bytes { part.new ≡ layer_of layer k part.old }
 {
     match layer {
         Layer::ShiftRows => layers::shift_rows(part),
         Layer::InvShiftRows => layers::inv_shift_rows(part),
         Layer::MixColumns => layers::mix_columns(part),
         Layer::InvMixColumns => layers::inv_mix_columns(part),
-        Layer::Affine => affine_part(part, k),
-        Layer::InvAffine => inv_affine_part(part, k),
+        Layer::Affine => with_constant(part, k, |x, c| add(aes_sbox_affine_transform(x), c)),
+        Layer::InvAffine => with_constant(part, k, |x, c| inv_aes_sbox_affine_transform(add(x, c))),
     }
 }
 
 // A layer on each of the six parts of a table of n positions.
-pub fn on_parts(state: &mut [u8], layer: Layer, n: usize) -> Answer
+pub(crate) fn on_parts(state: &mut [u8], layer: Layer, n: usize) -> Answer
     requires { TableFits n (length state.old) }
-    ensures { (number_of result ≡ 0) × (state.new ≡ on_table n layer state.old) }
+    ensures done { result ≡ Ok tt }
+    ensures bytes { state.new ≡ on_table n layer state.old }
 {
     for k in 0..PARTS {
         let a = k * n;
         let e = a + n;
         let step = on_part(&mut state[a..e], layer, k);
-        let Answer::Done = step else {
+        let Ok(()) = step else {
             return step;
         };
     }
-    Answer::Done
+    Ok(())
 }
 
 // Round key r of a key table with parts of w bytes, on each of the six parts.
-pub fn add_keys(state: &mut [u8], keys: &[u8], n: usize, w: usize, r: usize) -> Answer
+pub(crate) fn add_keys(state: &mut [u8], keys: &[u8], n: usize, w: usize, r: usize) -> Answer
     requires { KeyFits n w r (length state.old) (length keys.now) }
-    ensures { (number_of result ≡ 0) × (state.new ≡ key_added n w keys.now r state.old) }
+    ensures done { result ≡ Ok tt }
+    ensures bytes { state.new ≡ key_added n w keys.now r state.old }
 {
-    let first = r * KEY_BYTES;
+    let first = r * BLOCK_BYTES;
     for k in 0..PARTS {
         let a = k * n;
         let e = a + n;
         let b = k * w + first;
-        let d = b + KEY_BYTES;
+        let d = b + BLOCK_BYTES;
         let step = layers::add_round_key(&mut state[a..e], &keys[b..d]);
-        let Answer::Done = step else {
+        let Ok(()) = step else {
             return step;
         };
     }
-    Answer::Done
+    Ok(())
 }
 
-// An inversion with each party's alphas from a place of its part of w on.
-pub fn invert(state: &mut [u8], alphas: &[u8], n: usize, w: usize, from: usize) -> Answer
-    requires { AlphasFit n w from (length state.old) (length alphas.now) }
-    ensures { (number_of result ≡ 0) × (state.new ≡ inversion_of n (alphas_from n w alphas.now from) state.old) }
+// The three parties' alphas for an inversion of n positions, from a place of their parts of w on: where the last inversion stopped.
+pub(crate) fn party_alphas(alphas: &[u8], n: usize, w: usize, from: usize) -> Alphas<'_>
+    requires { BufferFits n w from (length alphas.now) }
+    ensures fit { AlphasFit n (length result.a0.now) (length result.a1.now) (length result.a2.now) }
+    ensures first { result.a0.now ≡ alphas_from n w alphas.now from 0 }
+    ensures second { result.a1.now ≡ alphas_from n w alphas.now from 1 }
+    ensures third { result.a2.now ≡ alphas_from n w alphas.now from 2 }
 {
     let need = 4 * n;
     let b = w + from;
     let c = w + b;
-    gf8_inv_parties(
-        state,
-        &alphas[from..from + need],
-        &alphas[b..b + need],
-        &alphas[c..c + need],
-    )
+    Alphas {
+        a0: &alphas[from..from + need],
+        a1: &alphas[b..b + need],
+        a2: &alphas[c..c + need],
+    }
 }

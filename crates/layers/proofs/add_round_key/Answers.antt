@@ -4,4 +4,4 @@ use Rattle.layers.proofs.Numbers.{keyed-passed}
 use Rattle.layers.proofs.add_round_key.Goals as goal
 
 pub load-rows-requires : goal.load-rows-requires
-load-rows-requires c = (keyed-passed _ _ (sym c.in-Done.ensures)).2
+load-rows-requires c = (keyed-passed _ _ (sym c.in_ok-keyed_check.ensures)).2

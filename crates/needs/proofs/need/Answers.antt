@@ -1,14 +1,16 @@
 -- `needs::need` meets its contract. Assumes nothing.
-use Rattle.std.proofs.Common.{sym}
+use Rattle.std.proofs.Common.{◌≡◌, ◌∙◌, sym, rules, Err}
 use Rattle.needs.proofs.Numbers.{need_fits}
-use Rattle.needs.proofs.NeededAnswers.{counted, refused, above_zero}
+use Rattle.needs.proofs.NeededAnswers.{counted, refused}
 use Rattle.needs.proofs.need.Goals as goal
 
-pub returns-in_default : goal.returns-in_default
-returns-in_default c = refused _ _ _ c.need_check-answer.result (above_zero _ c.in_default.not-Done) c.need_check-answer.ensures
+pub returns-in_err-need_check : goal.returns-in_err-need_check
+returns-in_err-need_check c =
+    let e : c.from_residual.result ≡ Err c.in_err-need_check.field-0.0 = search rules in
+    e ∙ refused _ _ _ _ c.in_err-need_check.ensures
 
 pub need_of-requires : goal.need_of-requires
-need_of-requires c = need_fits _ _ _ (sym c.in-Done.ensures)
+need_of-requires c = need_fits _ _ _ (sym c.in_ok-need_check.ensures)
 
 pub returns : goal.returns
-returns c = counted _ _ _ _ (sym c.in-Done.ensures) c.need_of.ensures
+returns c = counted _ _ _ _ (sym c.in_ok-need_check.ensures) c.need_of.ensures

@@ -11,12 +11,12 @@ room : (c : After-half_index)
     → c.half_index.result * (16 * (c.rounds_of.result + 1)) + 16 * c.args.round + 16 ≤ length c.args.keys.now
 room c =
     let a = c.args in
-    let f = half_fits _ _ _ _ (sym c.in-Done.ensures) in
+    let f = half_fits _ _ _ _ (sym c.in-Ok.ensures) in
     rw (c.half_index.ensures, c.rounds_of.ensures)
     (key-room _ a.round _ _ _ refl refl f.round _ f.keys (index-most a.party a.sii f.whose))
 
 pub half_index-requires : goal.half_index-requires
-half_index-requires c = (half_fits _ _ _ _ (sym c.in-Done.ensures)).whose
+half_index-requires c = (half_fits _ _ _ _ (sym c.in-Ok.ensures)).whose
 
 pub overflow_mul-start : goal.overflow_mul-start
 overflow_mul-start c = omega (arith, room (goal.at.overflow_mul-start c).After-half_index)
@@ -34,6 +34,6 @@ pub returns : goal.returns
 unfolding half_of
 returns c =
     let a = c.args in
-    let z = sym c.in-Done.ensures in
+    let z = sym c.in-Ok.ensures in
     let f = half_fits _ _ _ _ z in
     rw (z, c.half_index.ensures, c.rounds_of.ensures) (key-part _ _ _ _ _ refl refl f.round a.keys.now)

@@ -1,7 +1,5 @@
 -- `tables::parts::add_keys` meets its contract: no step is refused. Assumes nothing.
 use Rattle.std.proofs.Common.{refl, ◌∙◌, ◌+◌, ◌*◌, arith}
-use Rattle.rep3.specs.declared.Answer.TheVariants.{Done}
-use Rattle.rep3.proofs.Determined.{same_answer}
 use Rattle.fips197.specs.State.{add_round_key}
 use Rattle.lists.specs.Lists.{chunk}
 use Rattle.lists.proofs.Puts.{part-long}
@@ -27,11 +25,11 @@ stepped c =
     (part-long 16 (l.k * s.w + s.r * 16) _ _ refl within)
     (sub-chunk 16 s.r s.w l.k _ _ refl refl q.round s.keys.now)
     (part-chunk s.n l.k (l.k * s.n) _ l.state refl refl ∙ l.invariant.rest l.k (omega arith))
-    g.ensures.0 g.ensures.1
+    g.ensures.number g.ensures.bytes
 
 pub returns-in_default : goal.returns-in_default
 returns-in_default c =
-    absurd (c.in_default.not-Done (same_answer _ Done (stepped (goal.at.returns-in_default c).After-add_round_key-step).0))
+    absurd (c.in_default.not-Ok tt (stepped (goal.at.returns-in_default c).After-add_round_key-step).0)
 
 pub loop-k-preserved : goal.loop-k-preserved
 loop-k-preserved c =
@@ -42,5 +40,5 @@ loop-k-preserved c =
     putting-more _ _ _ _ _ _ l.invariant _ _ _ (omega arith) refl refl
     (g.auto.part ∙ part-long s.n _ _ _ refl room) (stepped (goal.at.loop-k-preserved c).After-add_round_key-step).1
 
-pub returns : goal.returns
-returns c = (refl, putting_end _ _ _ _ _ _ c.loop-k.invariant (omega arith))
+pub returns-clause-bytes : goal.returns-clause-bytes
+returns-clause-bytes c = putting_end _ _ _ _ _ _ c.loop-k.invariant (omega arith)

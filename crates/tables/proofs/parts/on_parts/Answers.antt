@@ -14,7 +14,7 @@ loop-k-preserved c =
     let room = chunk_in s.n l.k 6 _ l.invariant.long (omega arith) in
     let y = part-chunk s.n l.k (l.k * s.n) _ l.state refl refl ∙ l.invariant.rest l.k (omega arith) in
     putting-more _ _ _ _ _ _ l.invariant _ _ _ (omega arith) refl refl
-    (g.auto.part ∙ part-long s.n _ _ _ refl room) (g.ensures.1 ∙ ap (layer_of s.layer l.k) y)
+    (g.auto.part ∙ part-long s.n _ _ _ refl room) (g.ensures.bytes ∙ ap (layer_of s.layer l.k) y)
 
-pub returns : goal.returns
-returns c = (refl, putting_end _ _ _ _ _ _ c.loop-k.invariant (omega arith))
+pub returns-clause-bytes : goal.returns-clause-bytes
+returns-clause-bytes c = putting_end _ _ _ _ _ _ c.loop-k.invariant (omega arith)
