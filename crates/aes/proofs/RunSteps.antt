@@ -11,8 +11,7 @@ use Rattle.lists.specs.Lists.{chunk}
 use Rattle.lists.proofs.Chunks.{apart}
 use Rattle.lists.proofs.Joined.{joined_cong, chunk-map}
 use Rattle.lists.proofs.Parts.{map-joined}
-use Rattle.rep3.specs.Answers.{number_of, when_done}
-use Rattle.rep3.specs.declared.Answer.{Answer}
+use Rattle.rep3.specs.Answers.{Answer, number_of, when_done}
 use Rattle.rep3.proofs.Opening.{length_share, length-six_parts}
 use Rattle.layers.specs.Layers.{each_block, table_number}
 use Rattle.layers.proofs.EachBlock.{length-each_block}
@@ -24,7 +23,8 @@ use Rattle.tables.specs.declared.parts.Layer.{Layer}
 use Rattle.tables.specs.declared.parts.Layer.TheVariants.{ShiftRows, InvShiftRows, Affine, InvAffine}
 use Rattle.tables.specs.Tables.{held_constant, on_table, key_added, alphas_from, sub_shifted, shift_subbed, key_number, alphas_number}
 use Rattle.tables.proofs.Numbers.{table_passes, key_passes, alphas_pass}
-use Rattle.tables.proofs.Stepping.{Stepped, when}
+use Rattle.rep3.proofs.Refusals.{step-done}
+use Rattle.tables.proofs.Stepping.{Stepped}
 use Rattle.needs.specs.Needs.{key_table_bytes}
 use Rattle.aes.specs.Runs.{constant_part, on_parts, add_constant, sub_bytes_of, inv_sub_bytes_of, add_key_of, alphas_of}
 use Rattle.needs.specs.Keys.{round_key_part}
@@ -71,7 +71,7 @@ module _ (n R : ℕ) (cur keys alphas : List ℕ) (f : RunFits n R (length cur) 
   pub layer-done : (a : Answer) (layer : Layer) (out : List ℕ) → number_of a ≡ table_number (length cur)
       → out ≡ when_done (number_of a) (on_table (length cur / 6) layer cur) cur → Stepped a (on_table n layer cur) out
   layer-done a layer out e o =
-      let s = when a _ _ out (e ∙ table_passes n (length cur) f.table) o in
+      let s = step-done a _ _ cur out (table_passes n (length cur) f.table) e o in
       (s.0, s.1 ∙ ap (λ (m : ℕ). on_table m layer cur) positions)
 
   pub key-done : (a : Answer) (r : ℕ) (out : List ℕ) → r ≤ R → number_of a ≡ key_number (length cur) (length keys) r
@@ -80,17 +80,17 @@ module _ (n R : ℕ) (cur keys alphas : List ℕ) (f : RunFits n R (length cur) 
   key-done a r out h e o =
       let z : length keys % 96 ≡ 0 = omega (arith, f.keys) in
       let l : r < length keys / 96 = omega (arith, f.keys) in
-      let s = when a _ _ out (e ∙ key_passes n (length cur) f.table (length keys) r z l) o in
+      let s = step-done a _ _ cur out (key_passes n (length cur) f.table (length keys) r z l) e o in
       (s.0, s.1 ∙ ap₂ (λ (m w : ℕ). key_added m w keys r cur) positions key_width)
 
   module _ (a : Answer) (r from : ℕ) (out : List ℕ) (h : r < R) (p : from ≡ r * (4 * n))
       (e : number_of a ≡ alphas_number (length cur) (length alphas) from) where
-    number : number_of a ≡ 0
+    passes : alphas_number (length cur) (length alphas) from ≡ 0
     unfolding inversion_need
-    number =
+    passes =
         let z : length alphas % 3 ≡ 0 = omega (arith, f.alphas) in
         let w : from + 4 * n ≤ length alphas / 3 = omega (arith, apart (4 * n) r R h, third) in
-        e ∙ alphas_pass n (length cur) f.table (length alphas) from z w
+        alphas_pass n (length cur) f.table (length alphas) from z w
 
     alphas_are : alphas_from n (length alphas / 3) alphas from ≡ alphas_of n R alphas r
     unfolding alphas_of inversion_need chunk
@@ -99,7 +99,7 @@ module _ (n R : ℕ) (cur keys alphas : List ℕ) (f : RunFits n R (length cur) 
     pub sub-done : out ≡ when_done (number_of a) (sub_shifted (length cur / 6) (alphas_from (length cur / 6) (length alphas / 3) alphas from) cur) cur
         → Stepped a (on_parts n (each_block shift_rows) (sub_bytes_of n (alphas_of n R alphas r) cur)) out
     sub-done o =
-        let s = when a _ _ out number o in (
+        let s = step-done a _ _ cur out passes e o in (
           s.0,
           s.1 ∙ ap (λ (m : ℕ). sub_shifted m (alphas_from m (length alphas / 3) alphas from) cur) positions
               ∙ ap (λ (α : ℕ → List ℕ). sub_shifted n α cur) alphas_are ∙ sub-shift-is n (alphas_of n R alphas r) cur,
@@ -108,13 +108,8 @@ module _ (n R : ℕ) (cur keys alphas : List ℕ) (f : RunFits n R (length cur) 
     pub inv_sub-done : out ≡ when_done (number_of a) (shift_subbed (length cur / 6) (alphas_from (length cur / 6) (length alphas / 3) alphas from) cur) cur
         → Stepped a (inv_sub_bytes_of n (alphas_of n R alphas r) (on_parts n (each_block inv_shift_rows) cur)) out
     inv_sub-done o =
-        let s = when a _ _ out number o in (
+        let s = step-done a _ _ cur out passes e o in (
           s.0,
           s.1 ∙ ap (λ (m : ℕ). shift_subbed m (alphas_from m (length alphas / 3) alphas from) cur) positions
               ∙ ap (λ (α : ℕ → List ℕ). shift_subbed n α cur) alphas_are ∙ shift_sub-is n (alphas_of n R alphas r) cur f.table.long,
         )
-
--- the alphas of the r-th inversion lie within the buffer
-pub from-room : (n R r t k a : ℕ) → RunFits n R t k a → r < R → r * (4 * n) + 4 * n ≤ a
-unfolding inversion_need
-from-room n R r t k a f h = omega (arith, apart (4 * n) r R h, f.alphas)

@@ -1,7 +1,7 @@
 -- What the rounds of a run are given, and one round of the cipher and of the inverse. Assumes nothing.
-use Rattle.std.specs.Prelude.{ℕ, suc, ◌-◌, ◌*◌, ◌/◌, ◌≤◌, ◌≡◌, List, length}
+use Rattle.std.specs.Prelude.{ℕ, suc, ◌-◌, ◌*◌, ◌≤◌, ◌≡◌, List}
 use Rattle.fips197.specs.State.{shift_rows, inv_shift_rows, mix_columns, inv_mix_columns}
-use Rattle.layers.specs.Layers.{table_bytes, each_block}
+use Rattle.layers.specs.Layers.{each_block}
 use Rattle.tables.specs.Fits.{TableFits}
 use Rattle.chain.specs.Chain.{inversion_need}
 use Rattle.needs.specs.Needs.{key_table_bytes}
@@ -14,10 +14,6 @@ pub record RunFits (n R t k a : ℕ) : Type 0 where
   pub last : R ≤ 14
   pub keys : k ≡ key_table_bytes R
   pub alphas : a ≡ 3 * (R * inversion_need n)
-
--- the rounds of a key table
-abbrev pub rounds_in : List ℕ → ℕ
-rounds_in keys = length keys / table_bytes - 1
 
 -- round r + 1 of the cipher, and the round after r others of the inverse, as Runs.antt has them
 unfoldable pub cipher_round : ℕ → ℕ → List ℕ → List ℕ → ℕ → List ℕ → List ℕ

@@ -2,7 +2,10 @@
 // key table. This is the port of the runs of Maestro's aes/mod.rs. Each run exists once, and the variant is a number.
 #![tactic(auto)]
 
-mod runs;
+mod cipher_run;
+mod inverse_run;
+mod run;
 
-pub use needs::{Needed, need, round_key_answer, round_key_half};
-pub use runs::{cipher, inverse};
+pub use cipher_run::cipher;
+pub use inverse_run::inverse;
+pub use needs::{need, round_key_answer, round_key_half};

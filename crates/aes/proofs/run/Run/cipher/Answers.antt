@@ -1,0 +1,18 @@
+-- `aes::run::Run::cipher` meets its contract: the last round follows the others. Assumes nothing.
+use Rattle.std.proofs.Common.{◌∙◌, arith}
+use Rattle.aes.proofs.Rounds.{turns-none, turns_more, cipher-turned, cipher-is}
+use Rattle.aes.proofs.run.Run.cipher.Goals as goal
+
+pub loop-r-init : goal.loop-r-init
+loop-r-init c = (c.add_key-begun.auto.state ∙ c.requires, turns-none _ _)
+
+pub loop-r-preserved : goal.loop-r-preserved
+loop-r-preserved c =
+    let i = c.loop-r.invariant in
+    let g = c.cipher_round-step in
+    (g.auto.state ∙ i.0, g.ensures.bytes ∙ turns_more _ _ _ _ i.1)
+
+pub returns-clause-bytes : goal.returns-clause-bytes
+returns-clause-bytes c =
+    let rounds = cipher-turned _ _ _ _ _ _ _ _ _ (omega arith) c.add_key-begun.ensures.bytes c.loop-r.invariant.1 in
+    cipher-is _ _ _ _ _ _ _ _ rounds c.sub_and_shift-shifted.ensures.bytes c.add_key.ensures.bytes
