@@ -5,11 +5,8 @@
 ghost use Rattle.std.specs.Prelude.{◌≡◌};
 ghost use Rattle.fips197.specs.Field as field;
 
-use gf8::{add, mul, square};
+use gf8::{AFFINE_CONSTANT, add, mul, square};
 use std::io;
-
-// The constant of the S-box's affine map.
-const AFFINE_CONSTANT: u8 = 0x63;
 
 // The inverse of x by the chain of products that the parties use: x^254.
 fn inverse(x: u8) -> u8
@@ -31,18 +28,10 @@ fn sbox(x: u8) -> u8
     add(gf8::aes_sbox_affine_transform(inverse(x)), AFFINE_CONSTANT)
 }
 
-fn print_byte(rt: HostRuntime, x: u8) -> io::Result<()> {
-    print!(rt; "{x:02x}")
-}
-
 fn main(rt: HostRuntime) -> io::Result<()> {
-    for x in 0..256u32 {
-        print_byte(rt, sbox((x % 256) as u8))?;
-        if x % 16 == 15 {
-            println!(rt; "")?;
-        } else {
-            print!(rt; " ")?;
-        }
+    for x in 0..=255u8 {
+        let end = if x % 16 == 15 { "\n" } else { " " };
+        print!(rt; "{:02x}{}", sbox(x), end)?;
     }
     Ok(())
 }
