@@ -24,25 +24,28 @@ pub turns_more : (f : ℕ → List ℕ → List ℕ) (r : ℕ) (t cur : List ℕ
 unfolding turns
 turns_more f r t cur e = rw add-one (ap (f r) e)
 
-module _ (n R : ℕ) (keys alphas : List ℕ) where
-  cipher-turns : (r : ℕ) (t : List ℕ) → turns (cipher_round n R keys alphas) r (add_key_of n R keys 0 t) ≡ cipher_rounds n R keys alphas r t
-  unfolding turns cipher_round cipher_rounds
-  cipher-turns zero t = refl
-  cipher-turns (suc r) t = ap (cipher_round n R keys alphas r) (cipher-turns r t)
-
-  inverse-turns : (r : ℕ) (t : List ℕ) → turns (inverse_round n R keys alphas) r (add_key_of n R keys R t) ≡ inverse_rounds n R keys alphas r t
-  unfolding turns inverse_round inverse_rounds
-  inverse-turns zero t = refl
-  inverse-turns (suc r) t = ap (inverse_round n R keys alphas r) (inverse-turns r t)
+-- rounds by recursion, from start on, are as many turns
+module _ (f : ℕ → List ℕ → List ℕ) (start : List ℕ → List ℕ) (g : ℕ → List ℕ → List ℕ) (none : (t : List ℕ) → start t ≡ g 0 t)
+    (more : (r : ℕ) (t : List ℕ) → f r (g r t) ≡ g (suc r) t) where
+  turns-are : (r : ℕ) (t : List ℕ) → turns f r (start t) ≡ g r t
+  unfolding turns
+  turns-are zero t = none t
+  turns-are (suc r) t = ap (f r) (turns-are r t) ∙ more r t
 
   -- the loop has ended
+  turned : (r q : ℕ) (t begun cur : List ℕ) → r ≡ q → begun ≡ start t → cur ≡ turns f r begun → cur ≡ g q t
+  turned r q t begun cur p b e = e ∙ ap₂ (turns f) p b ∙ turns-are q t
+
+module _ (n R : ℕ) (keys alphas : List ℕ) where
   pub cipher-turned : (r q : ℕ) (t begun cur : List ℕ) → r ≡ q → begun ≡ add_key_of n R keys 0 t
       → cur ≡ turns (cipher_round n R keys alphas) r begun → cur ≡ cipher_rounds n R keys alphas q t
-  cipher-turned r q t begun cur p b e = e ∙ ap₂ (turns (cipher_round n R keys alphas)) p b ∙ cipher-turns q t
+  unfolding cipher_round cipher_rounds
+  cipher-turned = turned (cipher_round n R keys alphas) (add_key_of n R keys 0) (cipher_rounds n R keys alphas) (λ t. refl) (λ r t. refl)
 
   pub inverse-turned : (r q : ℕ) (t begun cur : List ℕ) → r ≡ q → begun ≡ add_key_of n R keys R t
       → cur ≡ turns (inverse_round n R keys alphas) r begun → cur ≡ inverse_rounds n R keys alphas q t
-  inverse-turned r q t begun cur p b e = e ∙ ap₂ (turns (inverse_round n R keys alphas)) p b ∙ inverse-turns q t
+  unfolding inverse_round inverse_rounds
+  inverse-turned = turned (inverse_round n R keys alphas) (add_key_of n R keys R) (inverse_rounds n R keys alphas) (λ t. refl) (λ r t. refl)
 
   -- a round, from its steps
   module _ (r : ℕ) (t s1 s2 out : List ℕ) where
