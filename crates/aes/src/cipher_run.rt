@@ -1,5 +1,5 @@
-// The cipher: FIPS-197's Figure 5 on a share table. Everything is counted first, and nothing is written before that has passed. A step's
-// answer is opened by let-else, and a refusal goes up at once: document 01, "Form by location".
+// The cipher: FIPS-197's Figure 5 on a share table. Everything is counted first, and nothing is written before that has passed. A called
+// step's answer is opened by let-else and a refusal goes up at once, as document 01 asks under 'Form by location'; `?` is for the counting.
 ghost use Rattle.std.specs.Prelude.{◌≡◌, ◌*◌, ◌/◌, ◌<◌, length};
 ghost use Rattle.rep3.specs.Answers.{number_of, when_done};
 ghost use Rattle.needs.specs.Needs.{rounds_of, run_number};

@@ -1,5 +1,5 @@
-// The inverse: FIPS-197's Figure 12 on a share table, in the same way. It is no twin of the cipher's: its steps are others, in another
-// order, and its keys go down.
+// The inverse: FIPS-197's Figure 12 on a share table, in the same way. One run over both would take the steps, their order and the order of
+// the keys as parameters, to share a loop of five lines.
 ghost use Rattle.std.specs.Prelude.{◌≡◌, ◌*◌, ◌/◌, ◌<◌, length};
 ghost use Rattle.rep3.specs.Answers.{number_of, when_done};
 ghost use Rattle.needs.specs.Needs.{rounds_of, run_number};

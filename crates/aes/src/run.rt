@@ -12,7 +12,8 @@ ghost use Rattle.aes.specs.Runs.{on_parts, sub_bytes_of, inv_sub_bytes_of, add_k
 use rep3::Answer;
 use tables::Layer;
 
-// The key table and the alphas of a run of so many rounds on a state table of n positions.
+// The key table and the alphas of a run of so many rounds on a state table of n positions. The state table itself is lent to each step: were
+// it a field, each step would have to promise that the other fields stay.
 #[derive(Clone, Copy)]
 pub(crate) struct Run<'a> {
     pub(crate) keys: &'a [u8],

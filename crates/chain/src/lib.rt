@@ -1,5 +1,7 @@
 // The chain of inversion in GF(2^8) on a small share table, line by line as Maestro's gf8_inv_layer, whose names for the powers it keeps.
-// Nothing is lent for scratch: five tables of some positions stand on the stack, 8 KiB.
+// Nothing is lent or allocated for scratch: five tables of some positions stand on the stack, 8 KiB, and are cut to the positions at hand.
+// A called step's answer is opened by let-else and a refusal goes up at once, as document 01 asks under 'Form by location'; `?` is for the
+// counting.
 #![tactic(auto)]
 
 ghost use Rattle.std.specs.Prelude.{◌≡◌, ◌+◌, ◌*◌, ◌/◌, ◌≤◌, map, length};

@@ -1,5 +1,7 @@
 // Chida et al.'s multiplication on replicated shares, opening, and inversion in GF(2^8): the port of Maestro's chida/online.rs. Inversion
-// goes over a table some positions at a time, so that nothing is lent for scratch and the stack holds 11 KiB at the most.
+// goes over a table some positions at a time, so that nothing is lent or allocated for scratch and the stack holds 11 KiB at the most. A
+// called step's answer is opened by let-else and a refusal goes up at once, as document 01 asks under 'Form by location'; `?` is for the
+// counting.
 #![tactic(auto)]
 
 ghost use Rattle.std.specs.Prelude.{◌≡◌, ◌+◌, ◌*◌, ◌/◌, ◌≤◌, length};
@@ -16,7 +18,8 @@ pub use halves::{mul_first_half, output_round, take_message};
 use joint::{Alphas, SPACE};
 use rep3::{Answer, Refusal};
 
-// Some positions of a layer's table, as a table.
+// Some positions of a layer's table, as a table. The six parts go by index, here and below: of what is written through chunks_exact_mut a
+// proof knows only the length.
 fn load(x: &mut [u8], table: &[u8], at: Positions)
     requires { PartsFit at.layer at.count (length table.now) (length x.old) }
     ensures { x.new ≡ cut at.layer at.from at.count table.now }

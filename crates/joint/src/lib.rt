@@ -1,5 +1,6 @@
 // The joint product: three parties multiply two share tables, each by the very halves that are exported, and each reads its message off
-// the outbox of the next party.
+// the outbox of the next party. A called step's answer is opened by let-else and a refusal goes up at once, as document 01 asks under
+// 'Form by location'; `?` is for the counting.
 #![tactic(auto)]
 
 ghost use Rattle.std.specs.Prelude.{◌≡◌, ◌/◌, length};
@@ -85,6 +86,7 @@ fn multiply(out: &mut [u8], x: &[u8], y: &[u8], alphas: &Alphas, place: usize, n
     ensures bytes { out.new ≡ product_of n x.now y.now (drawn place n (held alphas.now)) }
 {
     let end = place + n;
+    // Arrays cut to the positions at hand: nothing is allocated.
     let mut outbox0 = [0; SPACE];
     let mut outbox1 = [0; SPACE];
     let mut outbox2 = [0; SPACE];

@@ -18,7 +18,8 @@ const AES_128: u32 = 128;
 
 const AES_256: u32 = 256;
 
-// The kinds of a need: a cipher's, an inverse's, a schedule's.
+// The kinds of a need: a cipher's, an inverse's, a schedule's. Kind and variant are numbers, as C gives them and as document 01 has them, and
+// the promises here say what every number gets.
 pub const CIPHER: u32 = 0;
 
 pub const INVERSE: u32 = 1;

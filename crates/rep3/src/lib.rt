@@ -88,7 +88,7 @@ pub struct RssShare {
     pub sii: u8,
 }
 
-// A party's share of a constant that all know: s0 is the constant, and s1 and s2 are 0.
+// A party's share of a constant that all know: s0 is the constant, and s1 and s2 are 0. The party is a number, and any number has its answer.
 #[tactic(auto, using(std::proofs::lemmas::Bool::Decides::nat_tests), unfolding(crate::specs::Shares::constant_of))]
 pub fn constant(party: u32, value: u8) -> Result<RssShare, Refusal>
     ensures { result ≡ constant_of party value }
@@ -118,7 +118,7 @@ fn part_of(s: &[u8], place: usize, count: usize) -> &[u8]
 }
 
 // The message that a party reads: count bytes from place of the outbox that the direction names, 0 the next party's and 1 the previous
-// one's. It has no bytes for another direction, or where they would run past the outbox's end.
+// one's. It has no bytes for another direction, which may be any number, or where they would run past the outbox's end.
 #[tactic(auto, using(std::proofs::lemmas::Bool::Decides::nat_tests), unfolding(crate::specs::Shares::message_of))]
 pub fn message<'a>(
     next: &'a [u8],

@@ -1,5 +1,6 @@
-// A layer on each of the six parts of a share table, a round key on each, and the alphas of an inversion from a place on. A part is lent
-// on, and a step's refusal goes up at once. Bytes are secret: nothing branches on them.
+// A layer on each of the six parts of a share table, a round key on each, and the alphas of an inversion from a place on. A part is lent on.
+// A called step's answer is opened by let-else and a refusal goes up at once, as document 01 asks under 'Form by location'. Bytes are secret:
+// nothing branches on them.
 ghost use Rattle.std.specs.Prelude.{◌≡◌, ℕ, ◌<◌, map, length};
 ghost use Rattle.chain.specs.Powers.{AlphasFit};
 ghost use Rattle.tables.specs.Fits.{PartFits, TableFits, KeyFits, BufferFits, half_held, held_byte};
@@ -55,7 +56,8 @@ fn with_constant<F: Fn(u8, u8) -> u8>(part: &mut [u8], k: usize, f: F) -> Answer
     Ok(())
 }
 
-// A layer on part k.
+// A layer on part k. The layer is a value, as in the promise of on_table and in the definition layer_of: closures would put promises about a
+// lent part in the place of those names.
 fn on_part(part: &mut [u8], layer: Layer, k: usize) -> Answer
     requires part { k < 6 }
     requires whole { PartFits (length part.old) }
@@ -72,7 +74,8 @@ fn on_part(part: &mut [u8], layer: Layer, k: usize) -> Answer
     }
 }
 
-// A layer on each of the six parts of a table of n positions.
+// A layer on each of the six parts of a table of n positions. The parts go by index, here and below: n may be 0, and of what is written
+// through chunks_exact_mut a proof knows only the length.
 pub(crate) fn on_parts(state: &mut [u8], layer: Layer, n: usize) -> Answer
     requires { TableFits n (length state.old) }
     ensures done { result ≡ Ok tt }
