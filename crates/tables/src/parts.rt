@@ -92,7 +92,8 @@ pub(crate) fn on_parts(state: &mut [u8], layer: Layer, n: usize) -> Answer
     Ok(())
 }
 
-// Round key r of a key table with parts of w bytes, on each of the six parts.
+// Round key r of a key table with parts of w bytes, on each of the six parts. One loop for both, with the step as a closure, proves too; but its
+// contract would have to speak of every lent part that a closure may be given.
 pub(crate) fn add_keys(state: &mut [u8], keys: &[u8], n: usize, w: usize, r: usize) -> Answer
     requires { KeyFits n w r (length state.old) (length keys.now) }
     ensures done { result ≡ Ok tt }
