@@ -6,9 +6,6 @@ ghost use Rattle.std.specs.Prelude.{◌≡◌};
 ghost use Rattle.rep3.specs.Answers.{number_of, refusal_number};
 ghost use Rattle.rep3.specs.Shares.{constant_of, part_of, message_of};
 
-use std::error::Error;
-use std::fmt;
-
 // Why a step refused. The variants stand in the order of their numbers.
 #[derive(Clone, Copy, Debug, PartialEq, Eq, Hash)]
 pub enum Refusal {
@@ -49,27 +46,6 @@ impl From<Refusal> for u32 {
         }
     }
 }
-
-impl fmt::Display for Refusal {
-    fn fmt<W: fmt::Write>(&self, f: &mut fmt::Formatter<W>) -> fmt::Result {
-        f.write_str(match self {
-            Refusal::Length => "lengths differ, or a buffer is no table",
-            Refusal::TooMany => "too many positions or blocks",
-            Refusal::Message => "a message of the wrong length",
-            Refusal::Block => "not whole blocks",
-            Refusal::Keys => "not the round keys of the variant",
-            Refusal::Alphas => "not the alphas that are needed",
-            Refusal::Variant => "no such variant",
-            Refusal::Party => "no such party",
-            Refusal::Round => "no such round",
-            Refusal::Header => "no header of a run file",
-            Refusal::Mode => "no such mode",
-            Refusal::Count => "not the bytes that the header counts",
-        })
-    }
-}
-
-impl Error for Refusal {}
 
 // The number that goes over the boundary.
 pub fn number(answer: Answer) -> u32
