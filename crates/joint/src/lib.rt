@@ -18,7 +18,7 @@ pub const SPACE: usize = 256;
 // The direction from which the messages of a product come.
 const NEXT: u32 = 0;
 
-// The alphas that the three parties draw from, each party's its own.
+// The alphas that the three parties draw from, each party's its own. They are secret, as RssShare is.
 #[derive(Clone, Copy)]
 pub struct Alphas<'a> {
     pub a0: &'a [u8],

@@ -57,8 +57,8 @@ pub fn number(answer: Answer) -> u32
     }
 }
 
-// One party's share of a byte s0 + s1 + s2: party i holds s_i and s_(i+1 mod 3).
-#[derive(Clone, Copy, Debug, PartialEq, Eq, Hash)]
+// One party's share of a byte s0 + s1 + s2: party i holds s_i and s_(i+1 mod 3). It is secret, so it has no Debug, and no ==, which branches.
+#[derive(Clone, Copy)]
 pub struct RssShare {
     pub si: u8,
     pub sii: u8,
