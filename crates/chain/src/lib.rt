@@ -103,25 +103,13 @@ fn chain_check(x: usize, a0: usize, a1: usize, a2: usize, n: usize, s: usize) ->
     if x % 6 != 0 {
         return Err(Refusal::Length);
     }
-    if x / 6 > SPACE {
+    if x / 6 > SPACE || n > MOST_INVERSION {
         return Err(Refusal::TooMany);
     }
-    if n > MOST_INVERSION {
-        return Err(Refusal::TooMany);
-    }
-    if s > n {
+    if s > n || x / 6 > n - s {
         return Err(Refusal::Length);
     }
-    if x / 6 > n - s {
-        return Err(Refusal::Length);
-    }
-    if a0 != 4 * n {
-        return Err(Refusal::Alphas);
-    }
-    if a1 != 4 * n {
-        return Err(Refusal::Alphas);
-    }
-    if a2 != 4 * n {
+    if a0 != 4 * n || a1 != 4 * n || a2 != 4 * n {
         return Err(Refusal::Alphas);
     }
     Ok(())

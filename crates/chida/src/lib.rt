@@ -94,13 +94,7 @@ fn parties_check(table: usize, a0: usize, a1: usize, a2: usize) -> Answer
 {
     table_check(table)?;
     let need = 4 * (table / 6);
-    if a0 != need {
-        return Err(Refusal::Alphas);
-    }
-    if a1 != need {
-        return Err(Refusal::Alphas);
-    }
-    if a2 != need {
+    if a0 != need || a1 != need || a2 != need {
         return Err(Refusal::Alphas);
     }
     Ok(())

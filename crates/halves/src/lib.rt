@@ -24,19 +24,7 @@ fn product_at(ai: u8, aii: u8, bi: u8, bii: u8, alpha: u8) -> u8
 fn mul_check(ci: usize, ai: usize, aii: usize, bi: usize, bii: usize, alphas: usize) -> Answer
     ensures { number_of result ≡ mul_number ci ai aii bi bii alphas }
 {
-    if ai != ci {
-        return Err(Refusal::Length);
-    }
-    if aii != ci {
-        return Err(Refusal::Length);
-    }
-    if bi != ci {
-        return Err(Refusal::Length);
-    }
-    if bii != ci {
-        return Err(Refusal::Length);
-    }
-    if alphas != ci {
+    if ai != ci || aii != ci || bi != ci || bii != ci || alphas != ci {
         return Err(Refusal::Length);
     }
     if ci > MOST_PRODUCT {
@@ -94,10 +82,7 @@ pub fn take_message(cii: &mut [u8], received: &[u8]) -> Answer
 fn open_check(opened: usize, si: usize, sii: usize, received: usize) -> Answer
     ensures { number_of result ≡ open_number opened si sii received }
 {
-    if si != opened {
-        return Err(Refusal::Length);
-    }
-    if sii != opened {
+    if si != opened || sii != opened {
         return Err(Refusal::Length);
     }
     if opened > MOST_PRODUCT {

@@ -117,28 +117,13 @@ fn joint_check(
 ) -> Answer
     ensures { number_of result ≡ joint_number out x y a0 a1 a2 place }
 {
-    if out % 6 != 0 {
-        return Err(Refusal::Length);
-    }
-    if x != out {
-        return Err(Refusal::Length);
-    }
-    if y != out {
-        return Err(Refusal::Length);
-    }
-    if a1 != a0 {
-        return Err(Refusal::Length);
-    }
-    if a2 != a0 {
+    if out % 6 != 0 || x != out || y != out || a1 != a0 || a2 != a0 {
         return Err(Refusal::Length);
     }
     if out / 6 > SPACE {
         return Err(Refusal::TooMany);
     }
-    if place > a0 {
-        return Err(Refusal::Alphas);
-    }
-    if out / 6 > a0 - place {
+    if place > a0 || out / 6 > a0 - place {
         return Err(Refusal::Alphas);
     }
     Ok(())

@@ -35,13 +35,7 @@ fn alphas_check(t: usize, a: usize, from: usize) -> Answer
     ensures { number_of result ≡ alphas_number t a from }
 {
     table_check(t)?;
-    if a % 3 != 0 {
-        return Err(Refusal::Alphas);
-    }
-    if from > a / 3 {
-        return Err(Refusal::Alphas);
-    }
-    if 4 * (t / 6) > a / 3 - from {
+    if a % 3 != 0 || from > a / 3 || 4 * (t / 6) > a / 3 - from {
         return Err(Refusal::Alphas);
     }
     Ok(())
