@@ -8,7 +8,8 @@ use lib.Dec.{leb, eqb}
 use lib.ListN.{length, take}
 use lib.Seq.{length-take-le}
 use borrow.Author.Tests.{eqb-true, leb-true, eq-eqb, le-leb}
-use Rattle.rep3.proofs.Refusals.{passed, step-done}
+use Rattle.rep3.proofs.Refusals.{step-done}
+use Rattle.std.proofs.lemmas.Bool.Decides.{nat_tests}
 use Rattle.fips197.specs.Field.{square}
 use Rattle.halves.specs.Product.{product_of}
 use Rattle.chain.specs.Chain.{chain_of, inversion_need, most_inversion}
@@ -82,25 +83,17 @@ chained m n s a0 a1 a2 = chain_made m n s (three a0 a1 a2)
 
 pub chain_fits : (x a0 a1 a2 n s : ℕ) → chain_number x a0 a1 a2 n s ≡ 0 → (x ≡ 6 * (x / 6)) × Counted n s (x / 6) a0 a1 a2
 unfolding chain_number inversion_need most_inversion
-chain_fits x a0 a1 a2 n s e =
-    let p = passed (eqb (x % 6) 0) _ 0 e in
-    let q = passed (leb (x / 6) space_size) _ 1 p.1 in
-    let r = passed (leb n most_inversion) _ 1 q.1 in
-    let t = passed (leb (s + x / 6) n) _ 0 r.1 in
-    let u = passed (eqb a0 (inversion_need n)) _ 5 t.1 in
-    let v = passed (eqb a1 (inversion_need n)) _ 5 u.1 in
-    let w = passed (eqb a2 (inversion_need n)) _ 5 v.1 in
-    let z : x % 6 ≡ 0 = eqb-true _ _ p.0 in (
-      omega arith,
-      record {
-        space = leb-true _ _ q.0;
-        within = leb-true _ _ t.0;
-        most = leb-true _ _ r.0;
-        first = eqb-true _ _ u.0;
-        second = eqb-true _ _ v.0;
-        third = eqb-true _ _ w.0;
-      },
-    )
+chain_fits x a0 a1 a2 n s e = (
+  grind (arith, nat_tests),
+  record {
+    space = grind (arith, nat_tests);
+    within = grind (arith, nat_tests);
+    most = grind (arith, nat_tests);
+    first = grind (arith, nat_tests);
+    second = grind (arith, nat_tests);
+    third = grind (arith, nat_tests);
+  },
+)
 
 -- and the other way round
 pub fits-chain : (m x a0 a1 a2 n s : ℕ) → x ≡ 6 * m → Counted n s m a0 a1 a2 → (x / 6 ≡ m) × (chain_number x a0 a1 a2 n s ≡ 0)

@@ -6,7 +6,7 @@ use mathlib.Core.List.{List}
 use lib.Dec.{leb, eqb}
 use borrow.Author.Tests.{eqb-true, leb-true, eq-eqb, le-leb}
 use lib.ListN.{length, take, drop}
-use Rattle.rep3.proofs.Refusals.{passed}
+use Rattle.std.proofs.lemmas.Bool.Decides.{nat_tests}
 use Rattle.lists.specs.Lists.{chunk}
 use Rattle.lists.proofs.Puts.{part-long}
 use Rattle.lists.proofs.Chunks.{apart, part-chunk}
@@ -31,18 +31,12 @@ pub record PartiesFit (n t a0 a1 a2 : ℕ) : Type 0 where
 pub parties_fit : (t a0 a1 a2 : ℕ) → parties_number t a0 a1 a2 ≡ 0 → PartiesFit (t / 6) t a0 a1 a2
 unfolding parties_number
 parties_fit t a0 a1 a2 e =
-    let p = passed (eqb (t % 6) 0) _ 0 e in
-    let q = passed (leb (t / 6) most_inversion) _ 1 p.1 in
-    let r = passed (eqb a0 (inversion_need (t / 6))) _ 5 q.1 in
-    let s = passed (eqb a1 (inversion_need (t / 6))) _ 5 r.1 in
-    let u = passed (eqb a2 (inversion_need (t / 6))) _ 5 s.1 in
-    let z : t % 6 ≡ 0 = eqb-true _ _ p.0 in
     record {
-      table = omega arith;
-      most = leb-true _ _ q.0;
-      first = eqb-true _ _ r.0;
-      second = eqb-true _ _ s.0;
-      third = eqb-true _ _ u.0;
+      table = grind (arith, nat_tests);
+      most = grind (arith, nat_tests);
+      first = grind (arith, nat_tests);
+      second = grind (arith, nat_tests);
+      third = grind (arith, nat_tests);
     }
 
 -- the thirds of a buffer that is not refused are not refused
@@ -54,11 +48,11 @@ pub record BufferFits (n t k : ℕ) : Type 0 where
 pub buffer_fits : (t k : ℕ) → inversion_number t k ≡ 0 → BufferFits (t / 6) t k
 unfolding inversion_number inversion_need most_inversion
 buffer_fits t k e =
-    let p = passed (eqb (t % 6) 0) _ 0 e in
-    let q = passed (leb (t / 6) most_inversion) _ 1 p.1 in
-    let r = passed (eqb k (3 * inversion_need (t / 6))) _ 5 q.1 in
-    let z : t % 6 ≡ 0 = eqb-true _ _ p.0 in
-    record { table = omega arith; most = leb-true _ _ q.0; alphas = eqb-true _ _ r.0 }
+    record {
+      table = grind (arith, nat_tests);
+      most = grind (arith, nat_tests);
+      alphas = grind (arith, nat_tests);
+    }
 
 pub thirds_zero : (n t a0 a1 a2 k : ℕ) → n ≡ t / 6 → BufferFits n t k → a0 ≡ 4 * n → a1 ≡ 4 * n → a2 ≡ 4 * n → parties_number t a0 a1 a2 ≡ 0
 unfolding parties_number inversion_need most_inversion

@@ -6,7 +6,7 @@ use mathlib.Core.Path.{◌≡◌, sym, ap, ◌∙◌}
 use mathlib.Core.List.{List, ◌++◌}
 use lib.Dec.{leb, eqb}
 use borrow.Author.Tests.{eqb-true, leb-true, eq-eqb, le-leb}
-use Rattle.rep3.proofs.Refusals.{passed}
+use Rattle.std.proofs.lemmas.Bool.Decides.{nat_tests}
 use lib.ListN.{length, take, drop}
 use lib.Seq.{take_at, length-take-le}
 use Rattle.lists.specs.Lists.{chunk}
@@ -90,27 +90,14 @@ module _ (n place : ℕ) (x y a0 a1 a2 c0 c1 c2 : List ℕ) where
 pub joint_fits : (out x y a0 a1 a2 place : ℕ) → joint_number out x y a0 a1 a2 place ≡ 0 → TablesFit (out / 6) place out x y a0 a1 a2
 unfolding joint_number
 joint_fits out x y a0 a1 a2 place e =
-    let p = passed (eqb (out % 6) 0) _ 0 e in
-    let q = passed (eqb x out) _ 0 p.1 in
-    let r = passed (eqb y out) _ 0 q.1 in
-    let s = passed (eqb a1 a0) _ 0 r.1 in
-    let t = passed (eqb a2 a0) _ 0 s.1 in
-    let u = passed (leb (out / 6) space_size) _ 1 t.1 in
-    let v = passed (leb (place + out / 6) a0) _ 5 u.1 in
-    let z : out % 6 ≡ 0 = eqb-true _ _ p.0 in
-    let d : x ≡ out = eqb-true _ _ q.0 in
-    let f : y ≡ out = eqb-true _ _ r.0 in
-    let g : a1 ≡ a0 = eqb-true _ _ s.0 in
-    let h : a2 ≡ a0 = eqb-true _ _ t.0 in
-    let l : place + out / 6 ≤ a0 = leb-true _ _ v.0 in
     record {
-      space = leb-true _ _ u.0;
-      out = omega arith;
-      left = omega arith;
-      right = omega arith;
-      first = l;
-      second = omega arith;
-      third = omega arith;
+      space = grind (arith, nat_tests);
+      out = grind (arith, nat_tests);
+      left = grind (arith, nat_tests);
+      right = grind (arith, nat_tests);
+      first = grind (arith, nat_tests);
+      second = grind (arith, nat_tests);
+      third = grind (arith, nat_tests);
     }
 
 -- and the other way round

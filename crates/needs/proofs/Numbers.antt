@@ -6,7 +6,7 @@ use mathlib.Core.Logic.{◌⊎◌, inl, inr}
 use mathlib.Core.Bool.{Bool, true, false, cond}
 use borrow.Author.Tests.{eqb-true, leb-true}
 use lib.Dec.{leb, eqb}
-use Rattle.rep3.proofs.Refusals.{passed}
+use Rattle.std.proofs.lemmas.Bool.Decides.{nat_tests}
 use Rattle.layers.specs.Layers.{most_blocks}
 use Rattle.needs.specs.Needs.{rounds_of, block_need, schedule_need, need_of, has_variant, key_table_bytes, need_number}
 use Rattle.needs.specs.Keys.{half_number, half_index}
@@ -45,11 +45,7 @@ rounds_need kind v e = cases_of (eqb v 128) (eqb kind 1) (eqb v 256) e
 
 pub need_fits : (kind v blocks : ℕ) → need_number kind v blocks ≡ 0 → blocks ≤ most_blocks
 unfolding need_number
-need_fits kind v blocks e =
-    let p = passed (leb kind 2) _ 10 e in
-    let q = passed (has_variant kind v) _ 6 p.1 in
-    let r = passed (leb blocks most_blocks) _ 1 q.1 in
-    leb-true _ _ r.0
+need_fits kind v blocks e = grind (arith, nat_tests)
 
 need-most : (a b : Bool) (n : ℕ) → n ≤ 4096 → cond a (cond b 160 208) (n * cond b 640 896) ≤ 3670016
 need-most true true n h = omega arith
@@ -70,12 +66,7 @@ pub record HalfFits (v k party r : ℕ) : Type 0 where
 
 pub half_fits : (v k party r : ℕ) → half_number v k party r ≡ 0 → HalfFits v k party r
 unfolding half_number
-half_fits v k party r e =
-    let p = passed (has_variant 0 v) _ 6 e in
-    let q = passed (eqb k (key_table_bytes (rounds_of v))) _ 4 p.1 in
-    let w = passed (leb party 2) _ 7 q.1 in
-    let s = passed (leb r (rounds_of v)) _ 8 w.1 in
-    record { keys = eqb-true _ _ q.0; whose = leb-true _ _ w.0; round = leb-true _ _ s.0 }
+half_fits v k party r e = record { keys = grind (arith, nat_tests); whose = grind (arith, nat_tests); round = grind (arith, nat_tests) }
 
 index_of : (party : ℕ) (sii : Bool) → party ≤ 2 → cond sii (2 * party + 1) (2 * party) < 6
 index_of party true h = omega arith

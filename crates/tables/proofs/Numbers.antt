@@ -4,7 +4,7 @@ use native.Mathlib.Omega.{arith}
 use mathlib.Core.Path.{◌≡◌}
 use lib.Dec.{leb, eqb, ltb}
 use borrow.Author.Tests.{eqb-true, leb-true, ltb-true, eq-eqb, le-leb, lt-ltb}
-use Rattle.rep3.proofs.Refusals.{passed}
+use Rattle.std.proofs.lemmas.Bool.Decides.{nat_tests}
 use Rattle.layers.specs.Layers.{table_number}
 use Rattle.layers.proofs.Numbers.{table-passed}
 use Rattle.tables.specs.Fits.{PartFits, TableFits, KeyFits, BufferFits}
@@ -19,26 +19,12 @@ table_fits t e = let p = table-passed t e in whole-table t p.0 p.1
 pub key_fits : (t k r : ℕ) → key_number t k r ≡ 0 → KeyFits (t / 6) (k / 6) r t k
 unfolding key_number
 key_fits t k r e =
-    let p = passed (eqb (t % 96) 0) _ 3 e in
-    let q = passed (leb (t / 96) 4096) _ 1 p.1 in
-    let s = passed (eqb (k % 96) 0) _ 4 q.1 in
-    let u = passed (ltb r (k / 96)) _ 8 s.1 in
-    let z : k % 96 ≡ 0 = eqb-true _ _ s.0 in
-    let l : r < k / 96 = ltb-true _ _ u.0 in
-    record { table = whole-table t (eqb-true _ _ p.0) (leb-true _ _ q.0); keys = omega arith; round = omega arith }
+    record { table = whole-table t (grind (arith, nat_tests)) (grind (arith, nat_tests)); keys = grind (arith, nat_tests); round = grind (arith, nat_tests) }
 
 pub alphas_fit : (t a from : ℕ) → alphas_number t a from ≡ 0 → TableFits (t / 6) t × BufferFits (t / 6) (a / 3) from a
 unfolding alphas_number
 alphas_fit t a from e =
-    let p = passed (eqb (t % 96) 0) _ 3 e in
-    let q = passed (leb (t / 96) 4096) _ 1 p.1 in
-    let s = passed (eqb (a % 3) 0) _ 5 q.1 in
-    let u = passed (leb from (a / 3)) _ 5 s.1 in
-    let v = passed (leb (4 * (t / 6)) (a / 3 - from)) _ 5 u.1 in
-    let z : a % 3 ≡ 0 = eqb-true _ _ s.0 in
-    let l : from ≤ a / 3 = leb-true _ _ u.0 in
-    let m : 4 * (t / 6) ≤ a / 3 - from = leb-true _ _ v.0 in
-    (whole-table t (eqb-true _ _ p.0) (leb-true _ _ q.0), record { alphas = omega arith; within = omega arith })
+    (whole-table t (grind (arith, nat_tests)) (grind (arith, nat_tests)), record { alphas = grind (arith, nat_tests); within = grind (arith, nat_tests) })
 
 -- ---- the way back
 
