@@ -1,13 +1,11 @@
 -- What the steps of an inversion need and leave: lengths that fit, and the chain from its powers. Assumes nothing.
-use Prim.Native.Nat.{ℕ, ◌+◌, ◌-◌, ◌*◌, ◌/◌, ◌%◌, ◌≤◌}
+use Prim.Native.Nat.{ℕ, ◌+◌, ◌-◌, ◌*◌, ◌/◌, ◌≤◌}
 use native.Mathlib.Nat.{zero-mul, one-mul, zero-add, sub-zero}
 use native.Mathlib.Omega.{arith}
 use mathlib.Core.Path.{◌≡◌, sym, ap, ◌∙◌}
 use mathlib.Core.List.{List, map}
-use lib.Dec.{leb, eqb}
 use lib.ListN.{length, take}
 use lib.Seq.{length-take-le}
-use borrow.Author.Tests.{eqb-true, leb-true, eq-eqb, le-leb}
 use Rattle.rep3.proofs.Refusals.{step-done}
 use Rattle.std.proofs.lemmas.Bool.Decides.{nat_tests}
 use Rattle.fips197.specs.Field.{square}
@@ -98,12 +96,7 @@ chain_fits x a0 a1 a2 n s e = (
 -- and the other way round
 pub fits-chain : (m x a0 a1 a2 n s : ℕ) → x ≡ 6 * m → Counted n s m a0 a1 a2 → (x / 6 ≡ m) × (chain_number x a0 a1 a2 n s ≡ 0)
 unfolding chain_number inversion_need most_inversion
-fits-chain m x a0 a1 a2 n s e f =
-    let d : x / 6 ≡ m = omega arith in
-    let z : x % 6 ≡ 0 = omega arith in
-    let u : x / 6 ≤ space_size = rw d f.space in
-    let v : s + x / 6 ≤ n = rw d f.within in
-    (d, simp (eq-eqb _ _ z, le-leb _ _ u, le-leb _ _ f.most, le-leb _ _ v, eq-eqb _ _ f.first, eq-eqb _ _ f.second, eq-eqb _ _ f.third))
+fits-chain m x a0 a1 a2 n s e f = (grind (arith, nat_tests), grind (arith, nat_tests))
 
 -- the first x bytes of a table of as many positions as are inverted at a time
 pub table_front : (x m : ℕ) (o : List ℕ) → x ≡ 6 * m → length o ≡ 1536 → m ≤ space_size → length (take (x - 0) o) ≡ 6 * m

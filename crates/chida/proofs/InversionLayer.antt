@@ -1,10 +1,8 @@
 -- A whole inversion from its positions: the lengths that are not refused, and the loop over the table. Assumes nothing.
-use Prim.Native.Nat.{ℕ, ◌+◌, ◌-◌, ◌*◌, ◌/◌, ◌%◌, ◌≤◌, ◌<◌}
+use Prim.Native.Nat.{ℕ, ◌+◌, ◌-◌, ◌*◌, ◌/◌, ◌≤◌, ◌<◌}
 use native.Mathlib.Omega.{arith}
 use mathlib.Core.Path.{◌≡◌, sym, ap, ◌∙◌}
 use mathlib.Core.List.{List}
-use lib.Dec.{leb, eqb}
-use borrow.Author.Tests.{eqb-true, leb-true, eq-eqb, le-leb}
 use lib.ListN.{length, take, drop}
 use Rattle.std.proofs.lemmas.Bool.Decides.{nat_tests}
 use Rattle.lists.specs.Lists.{chunk}
@@ -56,14 +54,7 @@ buffer_fits t k e =
 
 pub thirds_zero : (n t a0 a1 a2 k : ℕ) → n ≡ t / 6 → BufferFits n t k → a0 ≡ 4 * n → a1 ≡ 4 * n → a2 ≡ 4 * n → parties_number t a0 a1 a2 ≡ 0
 unfolding parties_number inversion_need most_inversion
-thirds_zero n t a0 a1 a2 k e f p q r =
-    let l : t ≡ 6 * n = f.table in
-    let z : t % 6 ≡ 0 = omega arith in
-    let m : t / 6 ≤ 65536 = omega (arith, f.most) in
-    let d0 : a0 ≡ 4 * (t / 6) = omega arith in
-    let d1 : a1 ≡ 4 * (t / 6) = omega arith in
-    let d2 : a2 ≡ 4 * (t / 6) = omega arith in
-    simp (eq-eqb _ _ z, le-leb _ _ m, eq-eqb _ _ d0, eq-eqb _ _ d1, eq-eqb _ _ d2)
+thirds_zero n t a0 a1 a2 k e f p q r = grind (arith, nat_tests)
 
 -- ---- the loop: the positions below s are inverted
 

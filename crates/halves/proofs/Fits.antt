@@ -8,11 +8,8 @@ use Rattle.fips197.specs.State.{◌⊞◌}
 use Rattle.fips197.proofs.Vectors.{length_⊞, get_or_⊞}
 use Rattle.lists.specs.Lists.{tab}
 use Rattle.lists.proofs.Tabs.{tab-is}
-use lib.Dec.{leb, eqb}
 use native.Mathlib.Omega.{arith}
 use Rattle.std.proofs.lemmas.Bool.Decides.{nat_tests}
-use borrow.Author.Tests.{eq-eqb, le-leb}
-use Rattle.rep3.proofs.Refusals.{passed}
 use Rattle.halves.specs.Product.{most_product, mul_number, take_number, open_number, open_of}
 
 -- all slices of a product are n long

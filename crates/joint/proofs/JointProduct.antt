@@ -1,11 +1,9 @@
 -- The joint product from its steps: three outboxes, an exchange of their messages, and the product's six parts. Assumes nothing.
-use Prim.Native.Nat.{ℕ, zero, suc, ◌+◌, ◌*◌, ◌-◌, ◌/◌, ◌%◌, ◌≤◌, ◌<◌}
+use Prim.Native.Nat.{ℕ, zero, suc, ◌+◌, ◌*◌, ◌-◌, ◌/◌, ◌≤◌, ◌<◌}
 use native.Mathlib.Nat.{sub-zero}
 use native.Mathlib.Omega.{arith}
 use mathlib.Core.Path.{◌≡◌, sym, ap, ◌∙◌}
 use mathlib.Core.List.{List, ◌++◌}
-use lib.Dec.{leb, eqb}
-use borrow.Author.Tests.{eqb-true, leb-true, eq-eqb, le-leb}
 use Rattle.std.proofs.lemmas.Bool.Decides.{nat_tests}
 use lib.ListN.{length, take, drop}
 use lib.Seq.{take_at, length-take-le}
@@ -104,10 +102,4 @@ joint_fits out x y a0 a1 a2 place e =
 pub fits_joint : (m place out x y a0 a1 a2 : ℕ) → TablesFit m place out x y a0 a1 a2 → a1 ≡ a0 → a2 ≡ a0
     → (out / 6 ≡ m) × (joint_number out x y a0 a1 a2 place ≡ 0)
 unfolding joint_number
-fits_joint m place out x y a0 a1 a2 f g h =
-    let o : out ≡ 6 * m = f.out in
-    let d : out / 6 ≡ m = omega arith in
-    let z : out % 6 ≡ 0 = omega arith in
-    let u : out / 6 ≤ space_size = rw d f.space in
-    let v : place + out / 6 ≤ a0 = rw d f.first in
-    (d, simp (eq-eqb _ _ z, eq-eqb _ _ (f.left ∙ sym o), eq-eqb _ _ (f.right ∙ sym o), eq-eqb _ _ g, eq-eqb _ _ h, le-leb _ _ u, le-leb _ _ v))
+fits_joint m place out x y a0 a1 a2 f g h = (grind (arith, nat_tests), grind (arith, nat_tests))

@@ -1,13 +1,11 @@
 -- Numbers that are not refused by a step on a table, and the way back: what fits a step is not refused. Assumes nothing.
-use Prim.Native.Nat.{ℕ, ◌+◌, ◌-◌, ◌*◌, ◌/◌, ◌%◌, ◌≤◌, ◌<◌}
+use Prim.Native.Nat.{ℕ, ◌+◌, ◌*◌, ◌/◌, ◌%◌, ◌≤◌, ◌<◌}
 use native.Mathlib.Omega.{arith}
 use mathlib.Core.Path.{◌≡◌}
-use lib.Dec.{leb, eqb, ltb}
-use borrow.Author.Tests.{eqb-true, leb-true, ltb-true, eq-eqb, le-leb, lt-ltb}
 use Rattle.std.proofs.lemmas.Bool.Decides.{nat_tests}
 use Rattle.layers.specs.Layers.{table_number}
 use Rattle.layers.proofs.Numbers.{table-passed}
-use Rattle.tables.specs.Fits.{PartFits, TableFits, KeyFits, BufferFits}
+use Rattle.tables.specs.Fits.{TableFits, KeyFits, BufferFits}
 use Rattle.tables.specs.Tables.{key_number, alphas_number}
 
 whole-table : (t : ℕ) → t % 96 ≡ 0 → t / 96 ≤ 4096 → TableFits (t / 6) t
@@ -29,29 +27,14 @@ alphas_fit t a from e =
 -- ---- the way back
 
 module _ (n t : ℕ) (f : TableFits n t) where
-  l : t ≡ 6 * n
-  l = f.long
-
-  w : PartFits n
-  w = f.part
-
-  whole : t % 96 ≡ 0
-  whole = omega (arith, l, w.whole)
-
-  most : t / 96 ≤ 4096
-  most = omega (arith, l, w.whole, w.most)
-
   pub table_passes : table_number t ≡ 0
   unfolding table_number
-  table_passes = simp (eq-eqb _ _ whole, le-leb _ _ most)
+  table_passes = let l = f.long in let w = f.part.whole in let m = f.part.most in grind (arith, nat_tests)
 
   pub key_passes : (k r : ℕ) → k % 96 ≡ 0 → r < k / 96 → key_number t k r ≡ 0
   unfolding key_number
-  key_passes k r z h = simp (eq-eqb _ _ whole, le-leb _ _ most, eq-eqb _ _ z, lt-ltb _ _ h)
+  key_passes k r z h = let l = f.long in let w = f.part.whole in let m = f.part.most in grind (arith, nat_tests)
 
   pub alphas_pass : (a from : ℕ) → a % 3 ≡ 0 → from + 4 * n ≤ a / 3 → alphas_number t a from ≡ 0
   unfolding alphas_number
-  alphas_pass a from z h =
-      let p : from ≤ a / 3 = omega arith in
-      let q : 4 * (t / 6) ≤ a / 3 - from = omega (arith, l) in
-      simp (eq-eqb _ _ whole, le-leb _ _ most, eq-eqb _ _ z, le-leb _ _ p, le-leb _ _ q)
+  alphas_pass a from z h = let l = f.long in let w = f.part.whole in let m = f.part.most in grind (arith, nat_tests)

@@ -1,9 +1,9 @@
 -- A step that is given what fits is not refused: a layer on a part, a round key on a part, an inversion. Assumes nothing.
-use Prim.Native.Nat.{ℕ, ◌*◌, ◌/◌, ◌%◌, ◌≤◌}
+use Prim.Native.Nat.{ℕ, ◌/◌}
 use native.Mathlib.Omega.{arith}
 use mathlib.Core.Path.{◌≡◌, ap₂, ◌∙◌}
 use mathlib.Core.List.{List}
-use borrow.Author.Tests.{eq-eqb, le-leb}
+use Rattle.std.proofs.lemmas.Bool.Decides.{nat_tests}
 use lib.ListN.{length}
 use Rattle.fips197.specs.State.{add_round_key}
 use Rattle.lists.specs.Lists.{chunk}
@@ -23,7 +23,7 @@ Stepped a new out = (a ≡ Ok tt) × (out ≡ new)
 
 layer_passes : (n : ℕ) → PartFits n → layer_number n ≡ 0
 unfolding layer_number
-layer_passes n f = simp (eq-eqb _ _ f.whole, le-leb _ _ f.most)
+layer_passes n f = grind (arith, nat_tests)
 
 pub layer_stepped : (a : Answer) (n : ℕ) (new old out : List ℕ) → PartFits n → number_of a ≡ layer_number n
     → out ≡ when_done (number_of a) new old → Stepped a new out
@@ -31,7 +31,7 @@ layer_stepped a n new old out f = step-done a _ new old out (layer_passes n f)
 
 keyed_passes : (n k : ℕ) → PartFits n → k ≡ 16 → keyed_number n k ≡ 0
 unfolding keyed_number
-keyed_passes n k f e = simp (eq-eqb _ _ f.whole, le-leb _ _ f.most, eq-eqb _ _ e)
+keyed_passes n k f e = grind (arith, nat_tests)
 
 -- part is chunk k of the table as it was, and key its round key
 pub key_stepped : (a : Answer) (n w r k : ℕ) (keys old part key out : List ℕ) → PartFits n → length part ≡ n → length key ≡ 16
@@ -45,15 +45,7 @@ key_stepped a n w r k keys old part key out f lp lk ek ep e o =
 
 parties_pass : (n t a0 a1 a2 : ℕ) → TableFits n t → AlphasFit n a0 a1 a2 → parties_number t a0 a1 a2 ≡ 0
 unfolding parties_number inversion_need most_inversion
-parties_pass n t a0 a1 a2 f g =
-    let l : t ≡ 6 * n = f.long in
-    let w = f.part in
-    let z : t % 6 ≡ 0 = omega arith in
-    let m : t / 6 ≤ 65536 = omega (arith, w.most, w.whole) in
-    let d0 : a0 ≡ 4 * (t / 6) = omega (arith, g.first) in
-    let d1 : a1 ≡ 4 * (t / 6) = omega (arith, g.second) in
-    let d2 : a2 ≡ 4 * (t / 6) = omega (arith, g.third) in
-    simp (eq-eqb _ _ z, le-leb _ _ m, eq-eqb _ _ d0, eq-eqb _ _ d1, eq-eqb _ _ d2)
+parties_pass n t a0 a1 a2 f g = let l = f.long in let w = f.part.whole in let m = f.part.most in grind (arith, nat_tests)
 
 pub inversion_stepped : (a : Answer) (n a0 a1 a2 : ℕ) (α : ℕ → List ℕ) (old out : List ℕ) → TableFits n (length old) → AlphasFit n a0 a1 a2
     → number_of a ≡ parties_number (length old) a0 a1 a2 → out ≡ when_done (number_of a) (inversion_of (length old / 6) α old) old
