@@ -9,9 +9,17 @@ use lib.ListN.{length}
 use Rattle.std.proofs.lemmas.Bool.Decides.{nat_tests}
 use Rattle.chain.specs.Chain.{inversion_need}
 use Rattle.needs.specs.Needs.{rounds_of, block_need, need_of, run_number}
-use Rattle.aes.specs.Steps.{RunFits}
+use Rattle.tables.specs.Fits.{TableFits}
 use Rattle.aes.specs.declared.run.Run.{Run}
 use Rattle.needs.proofs.Numbers.{rounds-most, rounds_need}
+
+-- a state table, a key table and an alpha buffer of a run of R rounds on n positions
+pub record RunFits (n R t k a : ℕ) : Type 0 where
+  pub table : TableFits n t
+  pub first : 1 ≤ R
+  pub last : R ≤ 14
+  pub keys : k ≡ key_table_bytes R
+  pub alphas : a ≡ 3 * (R * inversion_need n)
 
 -- ---- a run that is not refused
 

@@ -28,7 +28,7 @@ use Rattle.tables.proofs.Stepping.{Stepped}
 use Rattle.needs.specs.Needs.{key_table_bytes}
 use Rattle.aes.specs.Runs.{constant_part, on_parts, add_constant, sub_bytes_of, inv_sub_bytes_of, add_key_of, alphas_of}
 use Rattle.needs.specs.Keys.{round_key_part}
-use Rattle.aes.specs.Steps.{RunFits}
+use Rattle.aes.proofs.RunFits.{RunFits}
 
 -- ---- S-boxes
 

@@ -1,4 +1,4 @@
--- What the rounds of a run are given, and one round of the cipher and of the inverse. Assumes nothing.
+-- One round of the cipher and of the inverse. Assumes nothing.
 use Rattle.std.specs.Prelude.{ℕ, suc, ◌-◌, ◌*◌, ◌≤◌, ◌≡◌, List}
 use Rattle.fips197.specs.State.{shift_rows, inv_shift_rows, mix_columns, inv_mix_columns}
 use Rattle.layers.specs.Layers.{each_block}
@@ -6,14 +6,6 @@ use Rattle.tables.specs.Fits.{TableFits}
 use Rattle.chain.specs.Chain.{inversion_need}
 use Rattle.needs.specs.Needs.{key_table_bytes}
 use Rattle.aes.specs.Runs.{on_parts, sub_bytes_of, inv_sub_bytes_of, add_key_of, alphas_of}
-
--- a state table, a key table and an alpha buffer of a run of R rounds on n positions
-pub record RunFits (n R t k a : ℕ) : Type 0 where
-  pub table : TableFits n t
-  pub first : 1 ≤ R
-  pub last : R ≤ 14
-  pub keys : k ≡ key_table_bytes R
-  pub alphas : a ≡ 3 * (R * inversion_need n)
 
 -- round r + 1 of the cipher, and the round after r others of the inverse, as Runs.antt has them
 unfoldable pub cipher_round : ℕ → ℕ → List ℕ → List ℕ → ℕ → List ℕ → List ℕ

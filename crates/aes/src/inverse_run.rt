@@ -1,5 +1,5 @@
-// The inverse: FIPS-197's Figure 12 on a share table, in the same way. One run over both would take the steps, their order and the order of
-// the keys as parameters, to share a loop of five lines.
+// The inverse: FIPS-197's Figure 12 on a share table, counted and answered as in cipher_run.rt. One run over both would take the first key,
+// the round, the last step and the last key as parameters, with a promise of each, to share a loop and a count.
 ghost use Rattle.std.specs.Prelude.{◌≡◌, ◌*◌, ◌/◌, ◌<◌, length};
 ghost use Rattle.rep3.specs.Answers.{number_of, when_done};
 ghost use Rattle.needs.specs.Needs.{rounds_of, run_number};

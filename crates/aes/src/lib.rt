@@ -1,5 +1,5 @@
 // AES on share tables: the cipher and the inverse with their round keys given, the alphas that a run needs, and one round key half of a
-// key table. This is the port of the runs of Maestro's aes/mod.rs. Each run exists once, and the variant is a number.
+// key table. This is the port of the runs of Maestro's aes/mod.rs. Each run exists once, and the variant is a number, as C gives it.
 #![tactic(auto)]
 
 mod cipher_run;

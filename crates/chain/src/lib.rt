@@ -22,7 +22,7 @@ pub const TABLE: usize = 6 * SPACE;
 pub const MOST_INVERSION: usize = 65536;
 
 // Some positions of a layer: so many from a place on. They are few enough to be inverted at a time.
-#[derive(Clone, Copy)]
+#[derive(Clone, Copy, Debug, PartialEq, Eq)]
 pub struct Positions {
     pub layer: usize,
     pub from: usize,
@@ -59,7 +59,9 @@ fn raise_to_16(v: &mut [u8])
     square_again(v);
 }
 
-// The chain on a table x of some positions of a layer. The other tables are lent to hold its powers.
+// The chain on a table x of some positions of a layer. The other tables are lent to hold its powers: each by itself, since a step writes one
+// and reads two.
+#[tactic(auto, unfolding(crate::specs::Chain::most_inversion))]
 fn chain(
     x: &mut [u8],
     x2: &mut [u8],
@@ -115,7 +117,8 @@ fn chain_check(x: usize, a0: usize, a1: usize, a2: usize, n: usize, s: usize) ->
     Ok(())
 }
 
-// The table x inverted in its place. Its positions are those from s of a layer of n, whose 4 n alphas each party lends whole.
+// The table x inverted in its place. Its positions are those from s of a layer of n, whose 4 n alphas each party lends whole. It takes numbers
+// and slices of any length, since it has an answer for each.
 pub fn invert(x: &mut [u8], alphas: &Alphas, n: usize, s: usize) -> Answer
     ensures number { number_of result ≡ chain_number (length x.old) (length alphas.now.a0.now) (length alphas.now.a1.now) (length alphas.now.a2.now) n s }
     ensures bytes { x.new ≡ when_done (number_of result) (chain_of (length x.old / 6) (λ u. drawn (u * n + s) (length x.old / 6) (held alphas.now)) x.old) x.old }

@@ -9,8 +9,8 @@ unfoldable pub inversion_of : ℕ → (ℕ → List ℕ) → List ℕ → List �
 inversion_of n alphas x = chain_of n (λ u p. chunk n u (alphas p)) x
 
 -- 1: the table is not in six equal parts; 2: too many positions
-unfoldable pub table_number : ℕ → ℕ
-table_number table = cond (eqb (table % 6) 0) (cond (leb (table / 6) most_inversion) 0 2) 1
+unfoldable pub positions_number : ℕ → ℕ
+positions_number table = cond (eqb (table % 6) 0) (cond (leb (table / 6) most_inversion) 0 2) 1
 
 -- 1: the table is not in six equal parts; 2: too many positions; 6: the alphas are not what three parties need
 unfoldable pub inversion_number : ℕ → ℕ → ℕ

@@ -10,7 +10,7 @@ ghost use Rattle.rep3.specs.Answers.{number_of, when_done};
 ghost use Rattle.joint.specs.Joint.{held, drawn};
 ghost use Rattle.chain.specs.Chain.{chain_of, inversion_need};
 ghost use Rattle.chain.specs.Powers.{AlphasFit};
-ghost use Rattle.chida.specs.Inversion.{inversion_of, table_number, inversion_number};
+ghost use Rattle.chida.specs.Inversion.{inversion_of, positions_number, inversion_number};
 ghost use Rattle.chida.specs.Positions.{PartsFit, parties_number, cut, pasted, stored};
 
 use chain::{MOST_INVERSION, Positions, TABLE, invert};
@@ -75,9 +75,9 @@ fn invert_positions(table: &mut [u8], alphas: &Alphas, at: Positions) -> Answer
 }
 
 // The refusals of a table alone.
-#[tactic(auto, using(std::proofs::lemmas::Bool::Decides::nat_tests), unfolding(crate::specs::Inversion::table_number, chain::specs::Chain::most_inversion))]
-fn table_check(table: usize) -> Answer
-    ensures { number_of result ≡ table_number table }
+#[tactic(auto, using(std::proofs::lemmas::Bool::Decides::nat_tests), unfolding(crate::specs::Inversion::positions_number, chain::specs::Chain::most_inversion))]
+fn positions_check(table: usize) -> Answer
+    ensures { number_of result ≡ positions_number table }
 {
     if table % 6 != 0 {
         return Err(Refusal::Length);
@@ -88,11 +88,11 @@ fn table_check(table: usize) -> Answer
     Ok(())
 }
 
-#[tactic(auto, using(std::proofs::lemmas::Bool::Decides::nat_tests), unfolding(crate::specs::Positions::parties_number, crate::specs::Inversion::table_number, chain::specs::Chain::inversion_need, chain::specs::Chain::most_inversion))]
+#[tactic(auto, using(std::proofs::lemmas::Bool::Decides::nat_tests), unfolding(crate::specs::Positions::parties_number, crate::specs::Inversion::positions_number, chain::specs::Chain::inversion_need, chain::specs::Chain::most_inversion))]
 fn parties_check(table: usize, a0: usize, a1: usize, a2: usize) -> Answer
     ensures { number_of result ≡ parties_number table a0 a1 a2 }
 {
-    table_check(table)?;
+    positions_check(table)?;
     let need = 4 * (table / 6);
     if a0 != need || a1 != need || a2 != need {
         return Err(Refusal::Alphas);
@@ -127,11 +127,11 @@ pub fn gf8_inv_parties(table: &mut [u8], alphas: &Alphas) -> Answer
     Ok(())
 }
 
-#[tactic(auto, using(std::proofs::lemmas::Bool::Decides::nat_tests), unfolding(crate::specs::Inversion::inversion_number, crate::specs::Inversion::table_number, chain::specs::Chain::inversion_need, chain::specs::Chain::most_inversion))]
+#[tactic(auto, using(std::proofs::lemmas::Bool::Decides::nat_tests), unfolding(crate::specs::Inversion::inversion_number, crate::specs::Inversion::positions_number, chain::specs::Chain::inversion_need, chain::specs::Chain::most_inversion))]
 fn inversion_check(table: usize, alphas: usize) -> Answer
     ensures { number_of result ≡ inversion_number table alphas }
 {
-    table_check(table)?;
+    positions_check(table)?;
     if alphas != 3 * (4 * (table / 6)) {
         return Err(Refusal::Alphas);
     }

@@ -16,9 +16,6 @@ const REDUCTION: u8 = 0x1b;
 // The constant of the S-box's affine map, which the map's table leaves to the caller.
 pub const AFFINE_CONSTANT: u8 = 0x63;
 
-// The bits of a byte, and so the terms of a product.
-const BITS: u32 = 8;
-
 // The sum, which is the difference too.
 pub fn add(a: u8, b: u8) -> u8
     ensures { result ≡ a ⊕ b }
@@ -40,17 +37,17 @@ fn xtime(a: u8) -> u8
     add(a << 1, masked(REDUCTION, a >> 7))
 }
 
-// The product: for each bit of b that is 1, from the lowest, a times that power of x is added.
+// The product: for each bit of b that is 1, from the lowest, a times that power of x is added. The loop's invariant speaks of i.
 pub fn mul(a: u8, b: u8) -> u8
     ensures { result ≡ a · b }
 {
     let mut sum: u8 = 0;
     let mut x = a;
     let mut y = b;
-    for i in 0..BITS {
+    for i in 0..u8::BITS {
         sum = add(sum, masked(x, y));
         x = xtime(x);
-        y = y >> 1;
+        y >>= 1;
     }
     sum
 }

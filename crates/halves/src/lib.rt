@@ -47,6 +47,7 @@ pub fn mul_first_half(
 {
     let n = ci.len();
     mul_check(n, ai.len(), aii.len(), bi.len(), bii.len(), alphas.len())?;
+    // By an index, and no zip of six: of what is written through an adapter but enumerate a proof knows only the length.
     for (j, c) in ci.iter_mut().enumerate() {
         *c = product_at(ai[j], aii[j], bi[j], bii[j], alphas[j]);
     }

@@ -24,11 +24,6 @@ length-first_half n ai aii bi bii alphas = length-tab n _
 pub box_front : (n : ℕ) (ys o : List ℕ) → length ys ≡ n → take (n - 0) (ys ++ drop (n - 0) o) ≡ ys
 box_front n ys o l = rw sub-zero (take_at ys (drop n o) n l)
 
--- the same of a table of six parts
-
-pub table-part : (m : ℕ) (o : List ℕ) → length o ≡ 6 * space_size → m ≤ space_size → length (take (6 * m - 0) o) ≡ 6 * m
-table-part m o l h = rw sub-zero (length-take-le (6 * m) o (omega (arith, l)))
-
 -- ---- what belongs to one of three parties, and to one of six parts
 
 pub three_cases : (P : ℕ → Type 0) → P 0 → P 1 → P 2 → (p : ℕ) → p < 3 → P p

@@ -15,10 +15,7 @@ use Rattle.lists.proofs.MapChunks.{chunk-map_chunks, map_chunks-then, map_chunks
 use Rattle.fips197.specs.State.{◌⊞◌}
 use Rattle.fips197.proofs.Vectors.{length_⊞, take_⊞, drop_⊞, append_⊞}
 use Rattle.layers.specs.Layers.{block_bytes, each_block}
-
--- f gives sixteen for sixteen
-abbrev pub KeepsBlock : (List ℕ → List ℕ) → Type 0
-KeepsBlock f = (b : List ℕ) → length b ≡ block_bytes → length (f b) ≡ block_bytes
+pub use Rattle.layers.specs.Layers.{KeepsBlock}
 
 -- f goes through sums of blocks
 abbrev pub AdditiveOnBlocks : (List ℕ → List ℕ) → Type 0

@@ -1,4 +1,3 @@
-pub mod Tags
 pub mod MixedBytes
 pub mod Rows
 pub mod Lengths

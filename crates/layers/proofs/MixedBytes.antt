@@ -12,6 +12,10 @@ use Rattle.layers.specs.Rows.{mixed_byte, inv_mixed_byte}
 one : (x : ℕ) → x < 256 → 0x01 · x ≡ x
 one x h = ·_comm 1 x ∙ ·-one x h
 
+-- the code has the factor second, since the product goes by its bits
+pub times_two : (x : ℕ) → x · 0x02 ≡ 0x02 · x
+times_two x = ·_comm x 2
+
 two_two : (x : ℕ) → 0x02 · (0x02 · x) ≡ 0x04 · x
 unfolding ◌⊕◌ ◌·◌ bit times_n modulus reduce_n
 two_two x = sym (·_assoc 2 2 x)
@@ -64,14 +68,17 @@ abbrev pub column_by : List ℕ → (ℕ → ℕ → ℕ → ℕ → ℕ) → �
 column_by s f r c = f (at s r c) (at s ((r + 1) % 4) c) (at s ((r + 2) % 4) c) (at s ((r + 3) % 4) c)
 
 module _ (s : List ℕ) (h : Block s) where
+  -- f and g agree on bytes
+  same_columns : (f g : ℕ → ℕ → ℕ → ℕ → ℕ) → ((x0 x1 x2 x3 : ℕ) → x1 < 256 → x2 < 256 → x3 < 256 → f x0 x1 x2 x3 ≡ g x0 x1 x2 x3)
+      → state_of (column_by s f) ≡ state_of (column_by s g)
+  same_columns f g e =
+      ap state_of (fun_ext (λ r. fun_ext (λ c.
+      e _ _ _ _ (at_byte s ((r + 1) % 4) c h) (at_byte s ((r + 2) % 4) c h) (at_byte s ((r + 3) % 4) c h))))
+
   pub mixed_state : state_of (column_by s mixed_byte) ≡ mix_columns s
   unfolding mix_columns mix_with
-  mixed_state =
-      ap state_of (fun_ext (λ r. fun_ext (λ c.
-      mixed_byte_lem _ _ _ _ (at_byte s ((r + 1) % 4) c h) (at_byte s ((r + 2) % 4) c h) (at_byte s ((r + 3) % 4) c h))))
+  mixed_state = same_columns mixed_byte _ mixed_byte_lem
 
   pub inv_mixed_state : state_of (column_by s inv_mixed_byte) ≡ inv_mix_columns s
   unfolding inv_mix_columns mix_with
-  inv_mixed_state =
-      ap state_of (fun_ext (λ r. fun_ext (λ c.
-      inv_mixed_byte_lem _ _ _ _ (at_byte s ((r + 1) % 4) c h) (at_byte s ((r + 2) % 4) c h) (at_byte s ((r + 3) % 4) c h))))
+  inv_mixed_state = same_columns inv_mixed_byte _ inv_mixed_byte_lem

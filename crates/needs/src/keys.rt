@@ -1,4 +1,5 @@
-// One round key half, handed back as a part of the caller's key table, and the second question, why there is none.
+// One round key half, handed back as a part of the caller's key table, and the second question, why there is none: document 01 asks for an
+// empty part and a question of its own, and not for one answer with both. Variant, party and round are numbers, and any number has its answer.
 ghost use Rattle.std.specs.Prelude.{◌≡◌, ◌≤◌, length};
 ghost use Rattle.rep3.specs.Answers.{number_of};
 ghost use Rattle.needs.specs.Keys.{half_number, half_index, half_of};

@@ -64,16 +64,12 @@ fn need_of(kind: u32, variant: u32, blocks: usize) -> usize
     requires { blocks ≤ most_blocks }
     ensures { result ≡ need_of kind variant blocks }
 {
-    if kind == SCHEDULE {
-        if variant == AES_128 {
-            return SCHEDULE_NEED_128;
-        }
-        return SCHEDULE_NEED_256;
+    match (kind, variant) {
+        (SCHEDULE, AES_128) => SCHEDULE_NEED_128,
+        (SCHEDULE, _) => SCHEDULE_NEED_256,
+        (_, AES_128) => blocks * BLOCK_NEED_128,
+        (_, _) => blocks * BLOCK_NEED_256,
     }
-    if variant == AES_128 {
-        return blocks * BLOCK_NEED_128;
-    }
-    blocks * BLOCK_NEED_256
 }
 
 #[tactic(auto, using(crate::proofs::Numbers::round_bounds), unfolding(crate::specs::Needs::key_table_bytes))]

@@ -1,16 +1,27 @@
--- A refusal leaves a list as it was, and the number 0 is no refusal's. Assumes nothing.
+-- A refusal leaves a list as it was, the number 0 is no refusal's, and a called step whose number comes to 0 is done. Assumes nothing.
 use mathlib.Core.Path.{◌≡◌, refl, ◌∙◌}
 use mathlib.Core.List.{List}
 use native.Mathlib.Omega.{arith}
-use Prim.Native.Nat.{ℕ, zero, suc, ◌<◌}
+use Prim.Native.Nat.{ℕ}
 use Rattle.std.specs.Prelude.{Ok, Err}
 use Rattle.rep3.specs.Answers.{Answer, refusal_number, number_of, when_done}
 use Rattle.rep3.specs.declared.Refusal.{Refusal}
 use Rattle.rep3.specs.declared.Refusal.TheVariants.{Length, TooMany, Message, Block, Keys, Alphas, Variant, Party, Round, Header, Mode, Count}
 
-kept : (n : ℕ) (new old : List ℕ) → 0 < n → when_done n new old ≡ old
-kept zero new old h = absurd (omega arith)
-kept (suc n) new old h = refl
+-- a list after a refusal is as it was
+pub refused : (r : Refusal) (new old : List ℕ) → when_done (refusal_number r) new old ≡ old
+refused Length new old = refl
+refused TooMany new old = refl
+refused Message new old = refl
+refused Block new old = refl
+refused Keys new old = refl
+refused Alphas new old = refl
+refused Variant new old = refl
+refused Party new old = refl
+refused Round new old = refl
+refused Header new old = refl
+refused Mode new old = refl
+refused Count new old = refl
 
 pub no_zero : {X : Type 0} (r : Refusal) → refusal_number r ≡ 0 → X
 no_zero Length e = absurd (omega arith)

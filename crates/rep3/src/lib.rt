@@ -6,7 +6,8 @@ ghost use Rattle.std.specs.Prelude.{◌≡◌};
 ghost use Rattle.rep3.specs.Answers.{number_of, refusal_number};
 ghost use Rattle.rep3.specs.Shares.{constant_of, part_of, message_of};
 
-// Why a step refused. The variants stand in the order of their numbers.
+// Why a step refused. The variants stand in the order of their numbers. It has no text: the number is what goes over the boundary, and nothing
+// here prints.
 #[derive(Clone, Copy, Debug, PartialEq, Eq, Hash)]
 pub enum Refusal {
     Length,
@@ -47,7 +48,7 @@ impl From<Refusal> for u32 {
     }
 }
 
-// The number that goes over the boundary.
+// The number that goes over the boundary. Not a From, which a crate cannot write for a Result.
 pub fn number(answer: Answer) -> u32
     ensures { result ≡ number_of answer }
 {
@@ -77,16 +78,13 @@ pub fn constant(party: u32, value: u8) -> Result<RssShare, Refusal>
     }
 }
 
-// count bytes of s from place; none where they would run past the end.
+// count bytes of s from place; none where they would run past the end, which document 01 asks for in the place of a refusal.
 #[tactic(auto, using(std::proofs::lemmas::Bool::Decides::nat_tests), unfolding(crate::specs::Shares::part_of))]
 fn part_of(s: &[u8], place: usize, count: usize) -> &[u8]
     ensures { result.now ≡ part_of s.now place count }
 {
     let n = s.len();
-    if place > n {
-        return &s[0..0];
-    }
-    if count > n - place {
+    if place > n || count > n - place {
         return &s[0..0];
     }
     let end = place + count;

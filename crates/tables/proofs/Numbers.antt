@@ -5,7 +5,7 @@ use mathlib.Core.Path.{◌≡◌}
 use Rattle.std.proofs.lemmas.Bool.Decides.{nat_tests}
 use Rattle.layers.specs.Layers.{table_number}
 use Rattle.layers.proofs.Numbers.{table-passed}
-use Rattle.tables.specs.Fits.{TableFits, KeyFits, BufferFits}
+use Rattle.tables.specs.Fits.{TableFits, KeyFits, DrawFits}
 use Rattle.tables.specs.Tables.{key_number, alphas_number}
 
 whole-table : (t : ℕ) → t % 96 ≡ 0 → t / 96 ≤ 4096 → TableFits (t / 6) t
@@ -19,7 +19,7 @@ unfolding key_number
 key_fits t k r e =
     record { table = whole-table t (grind (arith, nat_tests)) (grind (arith, nat_tests)); keys = grind (arith, nat_tests); round = grind (arith, nat_tests) }
 
-pub alphas_fit : (t a from : ℕ) → alphas_number t a from ≡ 0 → TableFits (t / 6) t × BufferFits (t / 6) (a / 3) from a
+pub alphas_fit : (t a from : ℕ) → alphas_number t a from ≡ 0 → TableFits (t / 6) t × DrawFits (t / 6) (a / 3) from a
 unfolding alphas_number
 alphas_fit t a from e =
     (whole-table t (grind (arith, nat_tests)) (grind (arith, nat_tests)), record { alphas = grind (arith, nat_tests); within = grind (arith, nat_tests) })

@@ -15,8 +15,7 @@ use Rattle.rep3.specs.Tables.{share_of}
 use Rattle.rep3.specs.declared.RssShare.{RssShare}
 use Rattle.rep3.specs.declared.Refusal.{Refusal}
 use Rattle.std.specs.Prelude.{Result, Ok}
-use Rattle.fips197.specs.Field.{affine_constant}
-use Rattle.tables.specs.Fits.{half_held, held_byte}
+use Rattle.tables.specs.Fits.{half_held}
 
 -- c at each place
 abbrev const : ℕ → ℕ → List ℕ
@@ -52,23 +51,23 @@ module _ (f : ℕ → ℕ) (c : ℕ) (xs : List ℕ) where
       ∙ ap (λ (x : ℕ). f (get_or xs i 0 ⊕ x)) (get_or-tab (length xs) (λ _. c) i 0 q)))
 
 -- a party of three is given its share of the constant
-pub constant_given : (k : ℕ) → k < 6 → (r : Result RssShare Refusal) → r ≡ constant_of (k / 2) affine_constant → (s : RssShare) × (r ≡ Ok s)
+pub constant_given : (k v : ℕ) → k < 6 → (r : Result RssShare Refusal) → r ≡ constant_of (k / 2) v → (s : RssShare) × (r ≡ Ok s)
 unfolding constant_of
-constant_given zero h r e = (_, e)
-constant_given (suc zero) h r e = (_, e)
-constant_given (suc (suc zero)) h r e = (_, e)
-constant_given (suc (suc (suc zero))) h r e = (_, e)
-constant_given (suc (suc (suc (suc zero)))) h r e = (_, e)
-constant_given (suc (suc (suc (suc (suc zero))))) h r e = (_, e)
-constant_given (suc (suc (suc (suc (suc (suc k)))))) h r e = absurd (omega arith)
+constant_given zero v h r e = (_, e)
+constant_given (suc zero) v h r e = (_, e)
+constant_given (suc (suc zero)) v h r e = (_, e)
+constant_given (suc (suc (suc zero))) v h r e = (_, e)
+constant_given (suc (suc (suc (suc zero)))) v h r e = (_, e)
+constant_given (suc (suc (suc (suc (suc zero))))) v h r e = (_, e)
+constant_given (suc (suc (suc (suc (suc (suc k)))))) v h r e = absurd (omega arith)
 
 -- and part k holds its byte of it
-pub constant_held : (k : ℕ) (s : RssShare) → k < 6 → Ok s ≡ constant_of (k / 2) affine_constant → half_held s k ≡ held_byte k
-unfolding constant_of share_of affine_constant
-constant_held zero s h e = let d : s.si ≡ 0x63 = cc in d
-constant_held (suc zero) s h e = let d : s.sii ≡ 0 = cc in d
-constant_held (suc (suc zero)) s h e = let d : s.si ≡ 0 = cc in d
-constant_held (suc (suc (suc zero))) s h e = let d : s.sii ≡ 0 = cc in d
-constant_held (suc (suc (suc (suc zero)))) s h e = let d : s.si ≡ 0 = cc in d
-constant_held (suc (suc (suc (suc (suc zero))))) s h e = let d : s.sii ≡ 0x63 = cc in d
-constant_held (suc (suc (suc (suc (suc (suc k)))))) s h e = absurd (omega arith)
+pub constant_held : (k v : ℕ) (s : RssShare) → k < 6 → Ok s ≡ constant_of (k / 2) v → half_held s k ≡ cond (eqb (share_of k) 0) v 0
+unfolding constant_of share_of
+constant_held zero v s h e = let d : s.si ≡ v = cc in d
+constant_held (suc zero) v s h e = let d : s.sii ≡ 0 = cc in d
+constant_held (suc (suc zero)) v s h e = let d : s.si ≡ 0 = cc in d
+constant_held (suc (suc (suc zero))) v s h e = let d : s.sii ≡ 0 = cc in d
+constant_held (suc (suc (suc (suc zero)))) v s h e = let d : s.si ≡ 0 = cc in d
+constant_held (suc (suc (suc (suc (suc zero))))) v s h e = let d : s.sii ≡ v = cc in d
+constant_held (suc (suc (suc (suc (suc (suc k)))))) v s h e = absurd (omega arith)

@@ -22,7 +22,7 @@ pub record KeyFits (n w r t k : ℕ) : Type 0 where
   pub round : r * 16 + 16 ≤ w
 
 -- an alpha buffer with parts of w, in each of which an inversion's alphas for n positions stand from a place
-pub record BufferFits (n w from a : ℕ) : Type 0 where
+pub record DrawFits (n w from a : ℕ) : Type 0 where
   pub alphas : a ≡ 3 * w
   pub within : from + 4 * n ≤ w
 

@@ -75,7 +75,7 @@ pub fn sub_and_shift(state: &mut [u8], alphas: &[u8], from: usize) -> Answer
     sboxes::sub_shift(state, &parties, n)
 }
 
-// InvShiftRows and InvSubBytes, in the same way.
+// InvShiftRows and InvSubBytes, in the same way. The two are alike but for the step, whose promise is what each promises.
 #[tactic(auto, using(crate::proofs::Numbers::alphas_fit))]
 pub fn shift_and_sub(state: &mut [u8], alphas: &[u8], from: usize) -> Answer
     ensures number { number_of result ≡ alphas_number (length state.old) (length alphas.now) from }

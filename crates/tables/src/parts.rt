@@ -3,7 +3,7 @@
 // nothing branches on them.
 ghost use Rattle.std.specs.Prelude.{◌≡◌, ℕ, ◌<◌, map, length};
 ghost use Rattle.chain.specs.Powers.{AlphasFit};
-ghost use Rattle.tables.specs.Fits.{PartFits, TableFits, KeyFits, BufferFits, half_held, held_byte};
+ghost use Rattle.tables.specs.Fits.{PartFits, TableFits, KeyFits, DrawFits, half_held, held_byte};
 ghost use Rattle.tables.specs.Tables.{layer_of, on_table, key_added, alphas_from};
 
 use gf8::{AFFINE_CONSTANT, add, aes_sbox_affine_transform, inv_aes_sbox_affine_transform};
@@ -35,7 +35,7 @@ fn half_held(share: RssShare, k: usize) -> u8
     share.sii
 }
 
-// f on each byte of part k, with what the part holds of the shared 0x63.
+// f on each byte of part k, with what the part holds of the shared 0x63. The one refusal of a constant is that of the party.
 fn with_constant<F: Fn(u8, u8) -> u8>(part: &mut [u8], k: usize, f: F) -> Answer
     ghost gives: { ℕ → ℕ → ℕ }
     requires part { k < 6 }
@@ -45,8 +45,7 @@ fn with_constant<F: Fn(u8, u8) -> u8>(part: &mut [u8], k: usize, f: F) -> Answer
     ensures bytes { part.new ≡ map (λ x. gives x (held_byte k)) part.old }
 {
     let party = (k / 2) as u32;
-    let given = constant(party, AFFINE_CONSTANT);
-    let Ok(share) = given else {
+    let Ok(share) = constant(party, AFFINE_CONSTANT) else {
         return Err(Refusal::Party);
     };
     let c = half_held(share, k);
@@ -113,9 +112,10 @@ pub(crate) fn add_keys(state: &mut [u8], keys: &[u8], n: usize, w: usize, r: usi
     Ok(())
 }
 
-// The three parties' alphas for an inversion of n positions, from a place of their parts of w on: where the last inversion stopped.
+// The three parties' alphas for an inversion of n positions, from a place of their parts of w on: where the last inversion stopped. A
+// constructor beside Alphas would be public, and so could not require this.
 pub(crate) fn party_alphas(alphas: &[u8], n: usize, w: usize, from: usize) -> Alphas<'_>
-    requires { BufferFits n w from (length alphas.now) }
+    requires { DrawFits n w from (length alphas.now) }
     ensures fit { AlphasFit n (length result.a0.now) (length result.a1.now) (length result.a2.now) }
     ensures first { result.a0.now ≡ alphas_from n w alphas.now from 0 }
     ensures second { result.a1.now ≡ alphas_from n w alphas.now from 1 }

@@ -1,5 +1,6 @@
 // SubBytes with the ShiftRows that follows it, and InvShiftRows with the InvSubBytes that follows it: the part of a round that draws alphas.
-// The answers of steps go up as in parts.rt. Bytes are secret: nothing branches on them.
+// The answers of steps go up as in parts.rt. n goes beside the table, and not in one value with it, since each step writes the table and would
+// have to promise that n stays. Bytes are secret: nothing branches on them.
 ghost use Rattle.std.specs.Prelude.{◌≡◌, length};
 ghost use Rattle.joint.specs.Joint.{held};
 ghost use Rattle.chain.specs.Powers.{AlphasFit};

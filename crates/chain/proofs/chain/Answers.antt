@@ -11,9 +11,6 @@ returns-in_default c =
     let d = product-done s.at.layer s.at.from s.at.count _ _ _ _ _ _ _ _ _ f p.third p.first (c.square_layer.auto.out ∙ p.second) (omega arith) c.mul_tables-cubed.ensures.number c.mul_tables-cubed.ensures.bytes in
     absurd (c.in_default.not-Ok tt d.0)
 
-pub overflow_add-at : goal.overflow_add-at
-overflow_add-at c = let q = counted c.args.at _ _ _ c.requires.alphas_fit in omega arith
-
 pub returns-in_default-fifteenth : goal.returns-in_default-fifteenth
 returns-in_default-fifteenth c =
     let s = c.args in
@@ -22,12 +19,6 @@ returns-in_default-fifteenth c =
     let d = product-done s.at.layer s.at.from s.at.count _ _ _ _ _ _ _ _ _ f p.fifteenth (c.square_again.auto.v ∙ c.square_layer-2.auto.out ∙ p.twelfth) (c.mul_tables-cubed.auto.out ∙ p.third) (omega arith) c.mul_tables-fifteenth.ensures.number c.mul_tables-fifteenth.ensures.bytes in
     absurd (c.in_default-fifteenth.not-Ok tt d.0)
 
-pub overflow_mul-at : goal.overflow_mul-at
-overflow_mul-at c = let q = counted c.args.at _ _ _ c.requires.alphas_fit in omega arith
-
-pub overflow_add-at-2 : goal.overflow_add-at-2
-overflow_add-at-2 c = let q = counted c.args.at _ _ _ c.requires.alphas_fit in omega arith
-
 pub returns-in_default-fourteenth : goal.returns-in_default-fourteenth
 returns-in_default-fourteenth c =
     let s = c.args in
@@ -35,12 +26,6 @@ returns-in_default-fourteenth c =
     let p = c.requires.powers_fit in
     let d = product-done s.at.layer s.at.from s.at.count _ _ _ _ _ _ _ _ _ f p.fourteenth (c.square_again.auto.v ∙ c.square_layer-2.auto.out ∙ p.twelfth) (c.square_layer.auto.out ∙ p.second) (omega arith) c.mul_tables-fourteenth.ensures.number c.mul_tables-fourteenth.ensures.bytes in
     absurd (c.in_default-fourteenth.not-Ok tt d.0)
-
-pub overflow_mul-at-2 : goal.overflow_mul-at-2
-overflow_mul-at-2 c = let q = counted c.args.at _ _ _ c.requires.alphas_fit in omega arith
-
-pub overflow_add-at-3 : goal.overflow_add-at-3
-overflow_add-at-3 c = let q = counted c.args.at _ _ _ c.requires.alphas_fit in omega arith
 
 pub returns : goal.returns
 returns c =

@@ -8,7 +8,7 @@ use Rattle.tables.proofs.parts.with_constant.Goals as goal
 pub returns-in_default : goal.returns-in_default
 unfolding affine_constant
 returns-in_default g c =
-    let s = constant_given c.args.k c.requires.1.0 _ c.constant-given.ensures in
+    let s = constant_given c.args.k _ c.requires.1.0 _ c.constant.ensures in
     absurd (c.in_default.not-Ok s.0 s.1)
 
 pub loop-x-init : goal.loop-x-init
@@ -23,6 +23,6 @@ loop-x-preserved g c =
 pub returns-clause-bytes : goal.returns-clause-bytes
 unfolding affine_constant
 returns-clause-bytes g c =
-    let h = c.half_held-c.ensures ∙ constant_held c.args.k _ c.requires.1.0 c.in-Ok.ensures in
+    let h = c.half_held-c.ensures ∙ constant_held c.args.k _ _ c.requires.1.0 c.in-Ok.ensures in
     filling_end _ _ _ _ _ c.loop-x.invariant.1 (omega arith) ∙ mapped _ (λ x. g.gives x c.half_held-c.result) c.args.part.now refl
     ∙ ap (λ (b : ℕ). map (λ x. g.gives x b) c.args.part.now) h
