@@ -8,7 +8,7 @@ use lib.Dec.{eqb}
 use lib.ListN.{length}
 use Rattle.std.proofs.lemmas.Bool.Decides.{nat_tests}
 use Rattle.chain.specs.Chain.{inversion_need}
-use Rattle.needs.specs.Needs.{rounds_of, block_need, need_of, run_number}
+use Rattle.needs.specs.Needs.{rounds_of, block_need, need_of, key_table_bytes, run_number}
 use Rattle.tables.specs.Fits.{TableFits}
 use Rattle.aes.specs.declared.run.Run.{Run}
 use Rattle.needs.proofs.Numbers.{rounds-most, rounds_need}

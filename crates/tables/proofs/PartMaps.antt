@@ -2,6 +2,8 @@
 use Prim.Native.Nat.{ℕ, zero, suc, ◌/◌, ◌<◌}
 use native.Mathlib.Omega.{arith}
 use mathlib.Core.Path.{◌≡◌, sym, ap, ◌∙◌}
+use lib.Dec.{eqb}
+use mathlib.Core.Bool.{cond}
 use mathlib.Core.List.{List, map}
 use lib.ListN.{length, get_or, length-map}
 use lib.Seq.{ext_get_or}
