@@ -99,8 +99,8 @@ fn chain(
 }
 
 #[tactic(auto, using(std::proofs::lemmas::Bool::Decides::nat_tests), unfolding(crate::specs::Powers::chain_number, joint::specs::Joint::space_size, crate::specs::Chain::inversion_need, crate::specs::Chain::most_inversion))]
-fn chain_check(x: usize, a0: usize, a1: usize, a2: usize, n: usize, s: usize) -> Answer
-    ensures { number_of result ≡ chain_number x a0 a1 a2 n s }
+fn chain_check(x: usize, alphas: &Alphas, n: usize, s: usize) -> Answer
+    ensures { number_of result ≡ chain_number x (length alphas.now.a0.now) (length alphas.now.a1.now) (length alphas.now.a2.now) n s }
 {
     if x % 6 != 0 {
         return Err(Refusal::Length);
@@ -111,7 +111,8 @@ fn chain_check(x: usize, a0: usize, a1: usize, a2: usize, n: usize, s: usize) ->
     if s > n || x / 6 > n - s {
         return Err(Refusal::Length);
     }
-    if a0 != 4 * n || a1 != 4 * n || a2 != 4 * n {
+    let need = 4 * n;
+    if alphas.a0.len() != need || alphas.a1.len() != need || alphas.a2.len() != need {
         return Err(Refusal::Alphas);
     }
     Ok(())
@@ -124,7 +125,7 @@ pub fn invert(x: &mut [u8], alphas: &Alphas, n: usize, s: usize) -> Answer
     ensures bytes { x.new ≡ when_done (number_of result) (chain_of (length x.old / 6) (λ u. drawn (u * n + s) (length x.old / 6) (held alphas.now)) x.old) x.old }
 {
     let e = x.len();
-    chain_check(e, alphas.a0.len(), alphas.a1.len(), alphas.a2.len(), n, s)?;
+    chain_check(e, alphas, n, s)?;
     let at = Positions {
         layer: n,
         from: s,

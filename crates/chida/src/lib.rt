@@ -89,12 +89,12 @@ fn positions_check(table: usize) -> Answer
 }
 
 #[tactic(auto, using(std::proofs::lemmas::Bool::Decides::nat_tests), unfolding(crate::specs::Positions::parties_number, crate::specs::Inversion::positions_number, chain::specs::Chain::inversion_need, chain::specs::Chain::most_inversion))]
-fn parties_check(table: usize, a0: usize, a1: usize, a2: usize) -> Answer
-    ensures { number_of result ≡ parties_number table a0 a1 a2 }
+fn parties_check(table: usize, alphas: &Alphas) -> Answer
+    ensures { number_of result ≡ parties_number table (length alphas.now.a0.now) (length alphas.now.a1.now) (length alphas.now.a2.now) }
 {
     positions_check(table)?;
     let need = 4 * (table / 6);
-    if a0 != need || a1 != need || a2 != need {
+    if alphas.a0.len() != need || alphas.a1.len() != need || alphas.a2.len() != need {
         return Err(Refusal::Alphas);
     }
     Ok(())
@@ -105,12 +105,7 @@ pub fn gf8_inv_parties(table: &mut [u8], alphas: &Alphas) -> Answer
     ensures number { number_of result ≡ parties_number (length table.old) (length alphas.now.a0.now) (length alphas.now.a1.now) (length alphas.now.a2.now) }
     ensures bytes { table.new ≡ when_done (number_of result) (inversion_of (length table.old / 6) (held alphas.now) table.old) table.old }
 {
-    parties_check(
-        table.len(),
-        alphas.a0.len(),
-        alphas.a1.len(),
-        alphas.a2.len(),
-    )?;
+    parties_check(table.len(), alphas)?;
     let n = table.len() / 6;
     for k in 0..n.div_ceil(SPACE) {
         let s = k * SPACE;

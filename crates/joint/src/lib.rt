@@ -86,7 +86,7 @@ fn multiply(out: &mut [u8], x: &[u8], y: &[u8], alphas: &Alphas, place: usize, n
     ensures bytes { out.new ≡ product_of n x.now y.now (drawn place n (held alphas.now)) }
 {
     let end = place + n;
-    // Arrays cut to the positions at hand: nothing is allocated.
+    // Arrays cut to the positions at hand: nothing is allocated. Each party's outbox and step has its own line, as in the protocol.
     let mut outbox0 = [0; SPACE];
     let mut outbox1 = [0; SPACE];
     let mut outbox2 = [0; SPACE];
@@ -106,18 +106,11 @@ fn multiply(out: &mut [u8], x: &[u8], y: &[u8], alphas: &Alphas, place: usize, n
 }
 
 #[tactic(auto, using(std::proofs::lemmas::Bool::Decides::nat_tests), unfolding(crate::specs::Joint::joint_number, crate::specs::Joint::space_size))]
-fn joint_check(
-    out: usize,
-    x: usize,
-    y: usize,
-    a0: usize,
-    a1: usize,
-    a2: usize,
-    place: usize,
-) -> Answer
-    ensures { number_of result ≡ joint_number out x y a0 a1 a2 place }
+fn joint_check(out: usize, x: usize, y: usize, alphas: &Alphas, place: usize) -> Answer
+    ensures { number_of result ≡ joint_number out x y (length alphas.now.a0.now) (length alphas.now.a1.now) (length alphas.now.a2.now) place }
 {
-    if out % 6 != 0 || x != out || y != out || a1 != a0 || a2 != a0 {
+    let a0 = alphas.a0.len();
+    if out % 6 != 0 || x != out || y != out || alphas.a1.len() != a0 || alphas.a2.len() != a0 {
         return Err(Refusal::Length);
     }
     if out / 6 > SPACE {
@@ -134,15 +127,7 @@ pub fn mul_tables(out: &mut [u8], x: &[u8], y: &[u8], alphas: &Alphas, place: us
     ensures number { number_of result ≡ joint_number (length out.old) (length x.now) (length y.now) (length alphas.now.a0.now) (length alphas.now.a1.now) (length alphas.now.a2.now) place }
     ensures bytes { out.new ≡ when_done (number_of result) (product_of (length out.old / 6) x.now y.now (drawn place (length out.old / 6) (held alphas.now))) out.old }
 {
-    joint_check(
-        out.len(),
-        x.len(),
-        y.len(),
-        alphas.a0.len(),
-        alphas.a1.len(),
-        alphas.a2.len(),
-        place,
-    )?;
+    joint_check(out.len(), x.len(), y.len(), alphas, place)?;
     let n = out.len() / 6;
     multiply(out, x, y, alphas, place, n)
 }
