@@ -1,6 +1,6 @@
 pub mod MixedBytes
 pub mod Rows
-pub mod Lengths
+pub mod Changes
 pub mod Numbers
 pub mod EachBlock
 pub mod BlockBytes

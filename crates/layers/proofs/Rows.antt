@@ -15,6 +15,10 @@ use Rattle.layers.proofs.MixedBytes.{column_by, mixed_state, inv_mixed_state}
 
 -- ---- from and to sixteen bytes
 
+length-bytes_of : (s : List (List ℕ)) → length (bytes_of s) ≡ 16
+unfolding bytes_of
+length-bytes_of s = length-state_of _
+
 loaded : (b : List ℕ) → length b ≡ 16 → bytes_of (first_chunks 4 4 b) ≡ b
 unfolding bytes_of state_of
 loaded b e = subst (λ (xs : List ℕ). bytes_of (first_chunks 4 4 xs) ≡ xs) (state_of-at b e) refl
@@ -44,17 +48,13 @@ module _ (s t : List (List ℕ)) where
   unfolding bytes_of state_of at
   mixed f p q r u = rw (p, q, r, u)
 
-  sixteen : length (bytes_of s) ≡ 16
-  unfolding bytes_of
-  sixteen = length-state_of _
-
   pub rows_mixed : Bytes (bytes_of s) → IsMixed mixed_byte 0 → IsMixed mixed_byte 1 → IsMixed mixed_byte 2 → IsMixed mixed_byte 3
       → bytes_of t ≡ mix_columns (bytes_of s)
-  rows_mixed h p q r u = mixed mixed_byte p q r u ∙ mixed_state (bytes_of s) (record { sixteen = sixteen; bytes = h })
+  rows_mixed h p q r u = mixed mixed_byte p q r u ∙ mixed_state (bytes_of s) (record { sixteen = length-bytes_of s; bytes = h })
 
   pub rows_inv_mixed : Bytes (bytes_of s) → IsMixed inv_mixed_byte 0 → IsMixed inv_mixed_byte 1 → IsMixed inv_mixed_byte 2 → IsMixed inv_mixed_byte 3
       → bytes_of t ≡ inv_mix_columns (bytes_of s)
-  rows_inv_mixed h p q r u = mixed inv_mixed_byte p q r u ∙ inv_mixed_state (bytes_of s) (record { sixteen = sixteen; bytes = h })
+  rows_inv_mixed h p q r u = mixed inv_mixed_byte p q r u ∙ inv_mixed_state (bytes_of s) (record { sixteen = length-bytes_of s; bytes = h })
 
   module _ (k : List (List ℕ)) where
     -- row r the sum of those of s and of the key k

@@ -9,14 +9,15 @@ ghost use Rattle.layers.specs.Rows.{row_of, byte_of, row, row_by, mixed_byte, in
 ghost use Rattle.layers.specs.Layers.{block_bytes, each_block, Computes};
 
 use super::BLOCK_BYTES;
-// Rows and blocks are written out entry by entry: of a block that array::from_fn makes a proof does not find the bytes, and of a row it
-// takes twice the time.
+
+// Rows and blocks are written out entry by entry: of a block that array::from_fn makes, a proof does not find the bytes, and for a row it
+// takes longer.
 type Row = [u8; 4];
 
 // A block: four rows by value.
 pub(crate) type Block = [Row; 4];
 
-// The rows of sixteen bytes.
+// The rows of sixteen bytes, and that they are bytes, which MixColumns asks.
 #[tactic(auto, using(crate::proofs::Rows::rows_loaded))]
 pub(crate) fn load(b: &[u8]) -> Block
     requires { length b.now ≡ block_bytes }
@@ -37,7 +38,7 @@ fn store(b: &mut [u8], s: Block)
     }
 }
 
-// A row turned to the left by some places. By indices: rotate_left, which turns a slice of any length, takes some fifty times as long.
+// A row turned to the left by some places. By indices: rotate_left, which turns a slice of any length, runs some fifty times as long.
 fn turned(row: Row, places: usize) -> Row
     requires { places < 4 }
     ensures { result ≡ row_of (λ c. byte_of row ((c + places) % 4)) }
@@ -54,14 +55,24 @@ fn turned(row: Row, places: usize) -> Row
 pub(crate) fn shift_rows(s: Block) -> Block
     ensures { bytes_of result ≡ fips197.shift_rows (bytes_of s) }
 {
-    [s[0], turned(s[1], 1), turned(s[2], 2), turned(s[3], 3)]
+    [
+        turned(s[0], 0),
+        turned(s[1], 1),
+        turned(s[2], 2),
+        turned(s[3], 3),
+    ]
 }
 
 #[tactic(auto, unfolding(fips197::specs::State::inv_shift_rows, fips197::specs::State::state_of, fips197::specs::State::at, crate::specs::Rows::bytes_of))]
 pub(crate) fn inv_shift_rows(s: Block) -> Block
     ensures { bytes_of result ≡ fips197.inv_shift_rows (bytes_of s) }
 {
-    [s[0], turned(s[1], 3), turned(s[2], 2), turned(s[3], 1)]
+    [
+        turned(s[0], 0),
+        turned(s[1], 3),
+        turned(s[2], 2),
+        turned(s[3], 1),
+    ]
 }
 
 fn column(s: Block, c: usize) -> Row
@@ -123,6 +134,7 @@ fn inv_mixed(p0: Row, p1: Row, p2: Row, p3: Row) -> Row
     added(twos, added(p1, last))
 }
 
+// The rows stand here and in the inverse: one function of both, over the rule of a row, would promise each row in a clause of its own.
 #[tactic(auto, using(crate::proofs::Rows::rows_mixed))]
 pub(crate) fn mix_columns(s: Block) -> Block
     ensures { fips197.Bytes (bytes_of s) → bytes_of result ≡ fips197.mix_columns (bytes_of s) }
@@ -161,8 +173,8 @@ pub(crate) fn add_round_key(s: Block, key: Block) -> Block
     ]
 }
 
-// A change of each block of a part; what is left over after the last whole block stays. By an index, since of a part that was written
-// through chunks_exact_mut a proof knows only the length.
+// A change of each block of a part: by f, for each map f of a block's bytes that the change computes. What is left over after the last
+// whole block stays. The loop goes by index: of a part that is written through chunks_exact_mut a proof knows only the length.
 pub(crate) fn each_block<F: Fn(Block) -> Block>(part: &mut [u8], change: F)
     requires { F.IsAlwaysCallable change }
     ensures { (f : List ℕ → List ℕ) → Computes (F.post change) f → part.new ≡ each_block f part.old }

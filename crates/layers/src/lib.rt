@@ -1,7 +1,7 @@
 // The layers of AES on a lent part of a share table, and the order of a state table's bytes: the port of the layers of Maestro's aes/mod.rs.
 // A part holds whole blocks of sixteen bytes by rows, and each block is changed as FIPS-197 says; a length that is not refused is changed
 // whole, and one that is refused not at all. Bytes are secret: nothing branches on them.
-#![tactic(auto, using(std::proofs::lemmas::Bool::Decides::nat_tests, crate::proofs::Lengths::lengths), unfolding(crate::specs::Layers::layer_number, crate::specs::Layers::keyed_number, crate::specs::Layers::table_number))]
+#![tactic(auto, using(std::proofs::lemmas::Bool::Decides::nat_tests, crate::proofs::Changes::changes), unfolding(crate::specs::Layers::layer_number, crate::specs::Layers::keyed_number, crate::specs::Layers::table_number))]
 
 mod blocks;
 
@@ -22,7 +22,7 @@ pub const TABLE_BYTES: usize = 96;
 
 pub const MOST_BLOCKS: usize = 4096;
 
-// The refusals of n bytes, of which a block has some.
+// The refusals of n bytes, where a block has size of them.
 fn blocks_check(n: usize, size: usize) -> Answer
     requires { 0 < size }
     ensures { number_of result ≡ blocks_number size n }
@@ -54,12 +54,14 @@ pub fn table_check(n: usize) -> Answer
     blocks_check(n, TABLE_BYTES)
 }
 
-// A change of each block of a part or a state table. The six parts of a table hold as many blocks each, so that it is a row of blocks.
+// A change of each block of a part or a state table. A table's six parts hold as many blocks each, so that it is a row of blocks too. size
+// is the bytes that a block has there: sixteen in a part, 96 in a table.
 fn on_blocks<F: Fn(Block) -> Block>(bytes: &mut [u8], size: usize, change: F) -> Answer
     requires sized { 0 < size }
     requires callable { F.IsAlwaysCallable change }
     ensures number { number_of result ≡ blocks_number size (length bytes.old) }
-    ensures bytes { (f : List ℕ → List ℕ) → Computes (F.post change) f → bytes.new ≡ when_done (number_of result) (each_block f bytes.old) bytes.old }
+    ensures bytes { (f : List ℕ → List ℕ) → Computes (F.post change) f
+        → bytes.new ≡ when_done (number_of result) (each_block f bytes.old) bytes.old }
 {
     blocks_check(bytes.len(), size)?;
     blocks::each_block(bytes, change);
@@ -117,7 +119,6 @@ pub fn rows_from_bytes(state: &mut [u8]) -> Answer
 }
 
 // And back: rows and columns change places again.
-#[tactic(auto, using(crate::proofs::Lengths::lengths), unfolding(crate::specs::Layers::table_number, fips197::specs::State::from_bytes, fips197::specs::State::to_bytes, fips197::specs::State::state_of, fips197::specs::State::at))]
 pub fn bytes_from_rows(state: &mut [u8]) -> Answer
     ensures number { number_of result ≡ table_number (length state.old) }
     ensures bytes { state.new ≡ when_done (number_of result) (each_block fips197.to_bytes state.old) state.old }
