@@ -1,10 +1,7 @@
 -- One round of the cipher and of the inverse. Assumes nothing.
-use Rattle.std.specs.Prelude.{ℕ, suc, ◌-◌, ◌*◌, ◌≤◌, ◌≡◌, List}
+use Rattle.std.specs.Prelude.{ℕ, suc, ◌-◌, List}
 use Rattle.fips197.specs.State.{shift_rows, inv_shift_rows, mix_columns, inv_mix_columns}
 use Rattle.layers.specs.Layers.{each_block}
-use Rattle.tables.specs.Fits.{TableFits}
-use Rattle.chain.specs.Chain.{inversion_need}
-use Rattle.needs.specs.Needs.{key_table_bytes}
 use Rattle.aes.specs.Runs.{on_parts, sub_bytes_of, inv_sub_bytes_of, add_key_of, alphas_of}
 
 -- round r + 1 of the cipher, and the round after r others of the inverse, as Runs.antt has them

@@ -11,7 +11,7 @@ use rep3::{Answer, Refusal};
 const LAST_PARTY: u32 = 2;
 
 // The refusals of a round key half of a key table of so many bytes.
-#[tactic(auto, using(std::proofs::lemmas::Bool::Decides::nat_tests), unfolding(crate::specs::Keys::half_number))]
+#[tactic(auto, using(std::proofs::lemmas::Bool::Decides::nat_tests), unfolding(crate::specs::Keys::half_number, crate::specs::Needs::has_variant, crate::specs::Needs::rounds_of, crate::specs::Needs::key_table_bytes))]
 fn half_check(variant: u32, keys: usize, party: u32, round: u32) -> Answer
     ensures { number_of result ≡ half_number variant keys party round }
 {

@@ -96,7 +96,7 @@ fn need_check(kind: u32, variant: u32, blocks: usize) -> Answer
 }
 
 // The refusals of a run on a state table, a key table and an alpha buffer of so many bytes.
-#[tactic(auto, using(std::proofs::lemmas::Bool::Decides::nat_tests), unfolding(crate::specs::Needs::run_number, layers::specs::Layers::table_number))]
+#[tactic(auto, using(std::proofs::lemmas::Bool::Decides::nat_tests), unfolding(crate::specs::Needs::run_number, crate::specs::Needs::has_variant, crate::specs::Needs::rounds_of, crate::specs::Needs::key_table_bytes, crate::specs::Needs::need_of, crate::specs::Needs::schedule_need, crate::specs::Needs::block_need, layers::specs::Layers::table_number))]
 pub fn run_check(kind: u32, variant: u32, state: usize, keys: usize, alphas: usize) -> Answer
     ensures { number_of result ≡ run_number kind variant state keys alphas }
 {

@@ -1,7 +1,5 @@
 -- What the inner steps on a table are given. Assumes nothing.
 use Rattle.std.specs.Prelude.{ℕ, ◌+◌, ◌*◌, ◌/◌, ◌%◌, ◌≤◌, ◌≡◌, cond, eqb}
-use Rattle.fips197.specs.Field.{affine_constant}
-use Rattle.rep3.specs.Tables.{share_of}
 use Rattle.rep3.specs.declared.RssShare.{RssShare}
 use Rattle.layers.specs.Layers.{block_bytes, most_blocks}
 
@@ -29,7 +27,3 @@ pub record DrawFits (n w from a : ℕ) : Type 0 where
 -- what part k holds of a party's share
 abbrev pub half_held : RssShare → ℕ → ℕ
 half_held s k = cond (eqb (k % 2) 0) s.si s.sii
-
--- and of the shared 0x63: s_0 is the constant, and s_1 and s_2 are 0
-abbrev pub held_byte : ℕ → ℕ
-held_byte k = cond (eqb (share_of k) 0) affine_constant 0

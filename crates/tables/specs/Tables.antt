@@ -10,9 +10,13 @@ use Rattle.chida.specs.Inversion.{inversion_of}
 use Rattle.tables.specs.declared.parts.Layer.{Layer}
 use Rattle.tables.specs.declared.parts.Layer.TheVariants.{ShiftRows, InvShiftRows, MixColumns, InvMixColumns, Affine, InvAffine}
 
--- the shared 0x63 at n positions, as part k holds it
+-- the shared 0x63, as part k holds it: s_0 is the constant, and s_1 and s_2 are 0
+abbrev pub held_byte : ℕ → ℕ
+held_byte k = cond (eqb (share_of k) 0) affine_constant 0
+
+-- and at n positions
 unfoldable pub held_constant : ℕ → ℕ → List ℕ
-held_constant n k = tab n (λ j. cond (eqb (share_of k) 0) affine_constant 0)
+held_constant n k = tab n (λ j. held_byte k)
 
 -- what a layer leaves in part k: the affine maps go with the constant
 abbrev pub layer_of : Layer → ℕ → List ℕ → List ℕ

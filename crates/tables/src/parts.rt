@@ -3,8 +3,8 @@
 // nothing branches on them.
 ghost use Rattle.std.specs.Prelude.{◌≡◌, ℕ, ◌<◌, map, length};
 ghost use Rattle.chain.specs.Powers.{AlphasFit};
-ghost use Rattle.tables.specs.Fits.{PartFits, TableFits, KeyFits, DrawFits, half_held, held_byte};
-ghost use Rattle.tables.specs.Tables.{layer_of, on_table, key_added, alphas_from};
+ghost use Rattle.tables.specs.Fits.{PartFits, TableFits, KeyFits, DrawFits, half_held};
+ghost use Rattle.tables.specs.Tables.{held_byte, layer_of, on_table, key_added, alphas_from};
 
 use gf8::{AFFINE_CONSTANT, add, aes_sbox_affine_transform, inv_aes_sbox_affine_transform};
 use joint::Alphas;
