@@ -59,8 +59,8 @@ fn raise_to_16(v: &mut [u8])
     square_again(v);
 }
 
-// The chain on a table x of some positions of a layer. The other tables are lent to hold its powers: each by itself, since a step writes one
-// and reads two.
+// The chain on a table x of some positions of a layer. The other tables are lent to hold its powers: each by itself, since a product writes
+// one and reads two.
 #[tactic(auto, unfolding(crate::specs::Chain::most_inversion))]
 fn chain(
     x: &mut [u8],

@@ -44,7 +44,7 @@ repeated (suc b) k = k ++ repeated b k
 abbrev pub KeepsBlock : (List ℕ → List ℕ) → Type 0
 KeepsBlock f = (b : List ℕ) → length b ≡ block_bytes → length (f b) ≡ block_bytes
 
--- a change of a block, of which `post s t` holds where it gives the rows t for the rows s, does f to the block's bytes
+-- a change of a block, of which `post s t` holds where it gives the rows t for the rows s, does to a block of bytes what f does, which keeps sixteen
 pub record Computes (post : List (List ℕ) → List (List ℕ) → Type 0) (f : List ℕ → List ℕ) : Type 0 where
   pub keeps : KeepsBlock f
   pub gives : (s t : List (List ℕ)) → Bytes (bytes_of s) → post s t → bytes_of t ≡ f (bytes_of s)

@@ -10,8 +10,8 @@ ghost use Rattle.layers.specs.Layers.{block_bytes, each_block, Computes};
 
 use super::BLOCK_BYTES;
 
-// Rows and blocks are written out entry by entry. array::from_fn was tried: of a block that it makes the check found no proof, and each row
-// that it makes adds two seconds to a check that is to stay under thirty.
+// What is computed of rows and blocks is written out entry by entry. array::from_fn was tried: of a block that it makes the check found no
+// proof, and each row that it makes adds two seconds to a check that is to stay under thirty.
 type Row = [u8; 4];
 
 // A block: four rows by value.

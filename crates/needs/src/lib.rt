@@ -35,7 +35,7 @@ const SCHEDULE_NEED_128: usize = 160;
 
 const SCHEDULE_NEED_256: usize = 208;
 
-// The rounds of a variant, and 0 for a number that is none, as the definition has it: who calls it has asked has_variant before.
+// The rounds of a variant, and 0 for a number that is none, as the definition has it: a run or a round key half is refused before that counts.
 #[tactic(auto, using(std::proofs::lemmas::Bool::Decides::nat_tests), unfolding(crate::specs::Needs::rounds_of))]
 pub fn rounds_of(variant: u32) -> usize
     ensures { result ≡ rounds_of variant }
