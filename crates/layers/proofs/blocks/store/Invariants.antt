@@ -1,7 +1,8 @@
--- The loop of `layers::blocks::store`: the first r rows are stored. Assumes nothing.
-use Rattle.lists.proofs.Putting.{Putting}
-use Rattle.layers.specs.Rows.{row}
+-- The loop of `layers::blocks::store`: the first k bytes are those of the rows, and the rest is as it was. Assumes nothing.
+use Rattle.std.proofs.Common.{◌/◌, ◌%◌}
+use Rattle.lists.proofs.Filling.{Filling}
+use Rattle.layers.specs.Rows.{byte_of, row}
 use Rattle.layers.proofs.blocks.store.Given as goal
 
-abbrev pub invariant-loop-r : goal.invariant-loop-r
-invariant-loop-r l = Putting 4 4 (row l.fn.s) l.initial.b l.r l.b
+abbrev pub invariant-loop-k : goal.invariant-loop-k
+invariant-loop-k l = Filling (λ i. byte_of (row l.fn.s (i / 4)) (i % 4)) 16 l.initial.b l.k l.b
