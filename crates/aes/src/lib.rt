@@ -8,4 +8,4 @@ mod run;
 
 pub use cipher_run::cipher;
 pub use inverse_run::inverse;
-pub use needs::{need, round_key_answer, round_key_half};
+pub use needs::{Needed, need, round_key_answer, round_key_half};

@@ -114,8 +114,11 @@ pub fn run_check(kind: u32, variant: u32, state: usize, keys: usize, alphas: usi
     Ok(())
 }
 
+// The answer to the need question: the alphas of each party, or the refusal.
+pub type Needed = Result<u64, Refusal>;
+
 // How many alphas each party needs for a run or a schedule of a variant on so many blocks.
-pub fn need(kind: u32, variant: u32, blocks: usize) -> Result<u64, Refusal>
+pub fn need(kind: u32, variant: u32, blocks: usize) -> Needed
     ensures { result ≡ needed_of kind variant blocks }
 {
     need_check(kind, variant, blocks)?;
