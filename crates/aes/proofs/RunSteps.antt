@@ -113,3 +113,8 @@ module _ (n R : ℕ) (cur keys alphas : List ℕ) (f : RunFits n R (length cur) 
           s.1 ∙ ap (λ (m : ℕ). shift_subbed m (alphas_from m (length alphas / 3) alphas from) cur) positions
               ∙ ap (λ (α : ℕ → List ℕ). shift_subbed n α cur) alphas_are ∙ shift_sub-is n (alphas_of n R alphas r) cur f.table.long,
         )
+
+-- the alphas of the r-th inversion lie within the buffer
+pub from-room : (n R r t k a : ℕ) → RunFits n R t k a → r < R → r * (4 * n) + 4 * n ≤ a
+unfolding inversion_need
+from-room n R r t k a f h = omega (arith, apart (4 * n) r R h, f.alphas)

@@ -23,9 +23,12 @@ pub record Ranges (n s m k : ℕ) : Type 0 where
   pub within : s + m ≤ n
   pub most : n ≤ 65536
 
-pub ranges_of : (at : Positions) (k : ℕ) → k < 6 → Ranges at.layer at.from at.count k
+ranges : (n s m k : ℕ) → s + m ≤ n → n ≤ most_inversion → k < 6 → Ranges n s m k
 unfolding most_inversion
-ranges_of at k h = record { small = apart at.count k 6 h; large = apart at.layer k 6 h; within = at.within; most = at.most }
+ranges n s m k w l h = record { small = apart m k 6 h; large = apart n k 6 h; within = w; most = l }
+
+pub ranges_of : (at : Positions) (k : ℕ) → k < 6 → Ranges at.layer at.from at.count k
+ranges_of at k h = ranges at.layer at.from at.count k at.within at.most h
 
 -- what is loaded of part k
 pub loaded : (n s m k c d : ℕ) (t : List ℕ) → c ≡ k * n + s → d ≡ c + m → s + m ≤ n → take (d - c) (drop c t) ≡ take m (drop s (chunk n k t))

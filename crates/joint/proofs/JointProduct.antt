@@ -5,7 +5,7 @@ use native.Mathlib.Omega.{arith}
 use mathlib.Core.Path.{◌≡◌, sym, ap, ◌∙◌}
 use mathlib.Core.List.{List, ◌++◌}
 use Rattle.std.proofs.lemmas.Bool.Decides.{nat_tests}
-use lib.ListN.{length, take, drop}
+use lib.ListN.{length, take, drop, length-append, length-drop}
 use lib.Seq.{take_at, length-take-le}
 use Rattle.lists.specs.Lists.{chunk}
 use Rattle.lists.proofs.Tabs.{length-tab}
@@ -23,6 +23,24 @@ length-first_half n ai aii bi bii alphas = length-tab n _
 
 pub box_front : (n : ℕ) (ys o : List ℕ) → length ys ≡ n → take (n - 0) (ys ++ drop (n - 0) o) ≡ ys
 box_front n ys o l = rw sub-zero (take_at ys (drop n o) n l)
+
+pub box_read : (n : ℕ) (ys o : List ℕ) → length ys ≡ n → length (take (n - 0) (ys ++ drop (n - 0) o)) ≡ n
+box_read n ys o l = ap length (box_front n ys o l) ∙ l
+
+pub box-long : (n : ℕ) (ys o : List ℕ) → length ys ≡ n → length o ≡ space_size → n ≤ space_size → length (ys ++ drop (n - 0) o) ≡ space_size
+box-long n ys o l e h = length-append ys (drop (n - 0) o) ∙ omega (arith, length-drop (n - 0) o)
+
+pub box-part : (n : ℕ) (o : List ℕ) → length o ≡ space_size → n ≤ space_size → length (take (n - 0) o) ≡ n
+box-part n o l h = rw sub-zero (length-take-le n o (omega (arith, l)))
+
+-- the same of a table of six parts
+
+pub table-part : (m : ℕ) (o : List ℕ) → length o ≡ 6 * space_size → m ≤ space_size → length (take (6 * m - 0) o) ≡ 6 * m
+table-part m o l h = rw sub-zero (length-take-le (6 * m) o (omega (arith, l)))
+
+pub table-long : (m : ℕ) (ys o : List ℕ) → length ys ≡ 6 * m → length o ≡ 6 * space_size → m ≤ space_size
+    → length (ys ++ drop (6 * m - 0) o) ≡ 6 * space_size
+table-long m ys o l e h = length-append ys (drop (6 * m - 0) o) ∙ omega (arith, length-drop (6 * m - 0) o)
 
 -- ---- what belongs to one of three parties, and to one of six parts
 

@@ -15,6 +15,10 @@ pub layer-passed : (n : ℕ) → layer_number n ≡ 0 → (n % block_bytes ≡ 0
 unfolding layer_number
 layer-passed n e = passed block_bytes n e
 
+pub keyed-passed : (n k : ℕ) → keyed_number n k ≡ 0 → (n % block_bytes ≡ 0) × (n / block_bytes ≤ most_blocks) × (k ≡ block_bytes)
+unfolding keyed_number
+keyed-passed n k e = (grind (arith, nat_tests), grind (arith, nat_tests), grind (arith, nat_tests))
+
 pub table-passed : (n : ℕ) → table_number n ≡ 0 → (n % table_bytes ≡ 0) × (n / table_bytes ≤ most_blocks)
 unfolding table_number
 table-passed n e = passed table_bytes n e

@@ -15,7 +15,7 @@ use Rattle.layers.proofs.MixedBytes.{column_by, mixed_state, inv_mixed_state}
 
 -- ---- from and to sixteen bytes
 
-length-bytes_of : (s : List (List ℕ)) → length (bytes_of s) ≡ 16
+pub length-bytes_of : (s : List (List ℕ)) → length (bytes_of s) ≡ 16
 unfolding bytes_of
 length-bytes_of s = length-state_of _
 
@@ -44,7 +44,7 @@ module _ (s t : List (List ℕ)) where
   abbrev pub IsMixed : (ℕ → ℕ → ℕ → ℕ → ℕ) → ℕ → Type 0
   IsMixed f r = row t r ≡ row_by f (row s r) (row s ((r + 1) % 4)) (row s ((r + 2) % 4)) (row s ((r + 3) % 4))
 
-  mixed : (f : ℕ → ℕ → ℕ → ℕ → ℕ) → IsMixed f 0 → IsMixed f 1 → IsMixed f 2 → IsMixed f 3 → bytes_of t ≡ state_of (column_by (bytes_of s) f)
+  pub mixed : (f : ℕ → ℕ → ℕ → ℕ → ℕ) → IsMixed f 0 → IsMixed f 1 → IsMixed f 2 → IsMixed f 3 → bytes_of t ≡ state_of (column_by (bytes_of s) f)
   unfolding bytes_of state_of at
   mixed f p q r u = rw (p, q, r, u)
 

@@ -64,6 +64,10 @@ module _ (f : ℕ → ℕ) (n : ℕ) (xs : List ℕ) (k : ℕ) (cur : List ℕ) 
       let e : k ≡ length xs = omega (arith, i.long) in
       rw (i.is, e, ← i.long) (filled-all f xs)
 
+-- at the end of a loop that copied ys
+pub copied : (n : ℕ) (ys : List ℕ) → length ys ≡ n → tab n (λ i. get_or ys i 0) ≡ ys
+copied n ys l = rw (← l) (tab-same ys)
+
 -- at the end of a loop that changed each element of ys by f
 pub mapped : (n : ℕ) (f : ℕ → ℕ) (ys : List ℕ) → length ys ≡ n → tab n (λ i. f (get_or ys i 0)) ≡ map f ys
 mapped n f ys l =

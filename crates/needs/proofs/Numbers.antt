@@ -7,7 +7,7 @@ use mathlib.Core.Bool.{Bool, true, false, cond}
 use lib.Dec.{eqb}
 use Rattle.std.proofs.lemmas.Bool.Decides.{nat_tests}
 use Rattle.layers.specs.Layers.{most_blocks}
-use Rattle.needs.specs.Needs.{rounds_of, block_need, has_variant, key_table_bytes, need_number}
+use Rattle.needs.specs.Needs.{rounds_of, block_need, schedule_need, need_of, has_variant, key_table_bytes, need_number}
 use Rattle.needs.specs.Keys.{half_number, half_index}
 
 -- ---- variants
@@ -45,6 +45,16 @@ rounds_need kind v e = cases_of (eqb v 128) (eqb kind 1) (eqb v 256) e
 pub need_fits : (kind v blocks : ℕ) → need_number kind v blocks ≡ 0 → blocks ≤ most_blocks
 unfolding need_number
 need_fits kind v blocks e = grind (arith, nat_tests)
+
+need-most : (a b : Bool) (n : ℕ) → n ≤ 4096 → cond a (cond b 160 208) (n * cond b 640 896) ≤ 3670016
+need-most true true n h = omega arith
+need-most true false n h = omega arith
+need-most false true n h = omega arith
+need-most false false n h = omega arith
+
+pub need-small : (kind v n : ℕ) → n ≤ most_blocks → need_of kind v n ≤ 3670016
+unfolding need_of schedule_need block_need
+need-small kind v n h = need-most (eqb kind 2) (eqb v 128) n h
 
 -- ---- a round key half that is not refused
 

@@ -1,12 +1,18 @@
--- A refusal leaves a list as it was, the number 0 is no refusal's, and a called step whose number comes to 0 is done. Assumes nothing.
+-- A refusal leaves a list as it was, the number 0 is no refusal's, a called step whose number comes to 0 is done, and what a chain of
+-- refusals that gives 0 shows. Assumes nothing.
 use mathlib.Core.Path.{◌≡◌, refl, ◌∙◌}
 use mathlib.Core.List.{List}
+use mathlib.Core.Bool.{Bool, true, false, cond}
 use native.Mathlib.Omega.{arith}
-use Prim.Native.Nat.{ℕ}
+use Prim.Native.Nat.{ℕ, zero, suc, ◌<◌}
 use Rattle.std.specs.Prelude.{Ok, Err}
 use Rattle.rep3.specs.Answers.{Answer, refusal_number, number_of, when_done}
 use Rattle.rep3.specs.declared.Refusal.{Refusal}
 use Rattle.rep3.specs.declared.Refusal.TheVariants.{Length, TooMany, Message, Block, Keys, Alphas, Variant, Party, Round, Header, Mode, Count}
+
+kept : (n : ℕ) (new old : List ℕ) → 0 < n → when_done n new old ≡ old
+kept zero new old h = absurd (omega arith)
+kept (suc n) new old h = refl
 
 -- a list after a refusal is as it was
 pub refused : (r : Refusal) (new old : List ℕ) → when_done (refusal_number r) new old ≡ old
@@ -46,3 +52,8 @@ is_done (Err r) e = no_zero r e
 pub step-done : (r : Answer) (k : ℕ) (new old xs : List ℕ) → k ≡ 0 → number_of r ≡ k → xs ≡ when_done (number_of r) new old
     → (r ≡ Ok tt) × (xs ≡ new)
 step-done r k new old xs z e h = (is_done r (e ∙ z), rw (e ∙ z) at h)
+
+-- a chain `cond t rest k` with k not 0 that gives 0: the test held, and so on with the rest
+pub passed : (t : Bool) (rest k : ℕ) → cond t rest (suc k) ≡ 0 → (t ≡ true) × (rest ≡ 0)
+passed true rest k e = (refl, e)
+passed false rest k e = absurd (omega arith)

@@ -1,7 +1,7 @@
 -- A step that is given what fits is not refused: a layer on a part, a round key on a part, an inversion. Assumes nothing.
 use Prim.Native.Nat.{ℕ, ◌/◌}
 use native.Mathlib.Omega.{arith}
-use mathlib.Core.Path.{◌≡◌, ap₂, ◌∙◌}
+use mathlib.Core.Path.{◌≡◌, sym, ap, ap₂, ◌∙◌}
 use mathlib.Core.List.{List}
 use Rattle.std.proofs.lemmas.Bool.Decides.{nat_tests}
 use lib.ListN.{length}
@@ -20,6 +20,10 @@ use Rattle.tables.specs.Fits.{PartFits, TableFits}
 -- a step that is done leaves the new list
 abbrev pub Stepped : Answer → List ℕ → List ℕ → Type 0
 Stepped a new out = (a ≡ Ok tt) × (out ≡ new)
+
+-- and the other way, as a run's promise has it
+pub done-is : (a : Answer) (new old out : List ℕ) → number_of a ≡ 0 → out ≡ new → out ≡ when_done (number_of a) new old
+done-is a new old out z e = e ∙ sym (ap (λ (n : ℕ). when_done n new old) z)
 
 layer_passes : (n : ℕ) → PartFits n → layer_number n ≡ 0
 unfolding layer_number
@@ -47,10 +51,14 @@ parties_pass : (n t a0 a1 a2 : ℕ) → TableFits n t → AlphasFit n a0 a1 a2 �
 unfolding parties_number inversion_need most_inversion
 parties_pass n t a0 a1 a2 f g = let l = f.long in let w = f.part.whole in let m = f.part.most in grind (arith, nat_tests)
 
+pub parties_stepped : (a : Answer) (n t a0 a1 a2 : ℕ) (new old out : List ℕ) → TableFits n t → AlphasFit n a0 a1 a2
+    → number_of a ≡ parties_number t a0 a1 a2 → out ≡ when_done (number_of a) new old → Stepped a new out
+parties_stepped a n t a0 a1 a2 new old out f g = step-done a _ new old out (parties_pass n t a0 a1 a2 f g)
+
 pub inversion_stepped : (a : Answer) (n a0 a1 a2 : ℕ) (α : ℕ → List ℕ) (old out : List ℕ) → TableFits n (length old) → AlphasFit n a0 a1 a2
     → number_of a ≡ parties_number (length old) a0 a1 a2 → out ≡ when_done (number_of a) (inversion_of (length old / 6) α old) old
     → Stepped a (inversion_of n α old) out
 inversion_stepped a n a0 a1 a2 α old out f g e o =
     let l : length old / 6 ≡ n = omega (arith, f.long) in
-    let s = step-done a _ _ old out (parties_pass n _ a0 a1 a2 f g) e o in
+    let s = parties_stepped a n _ a0 a1 a2 _ old out f g e o in
     (s.0, rw l at s.1)
