@@ -23,7 +23,7 @@ pub record Ranges (n s m k : ℕ) : Type 0 where
   pub within : s + m ≤ n
   pub most : n ≤ 65536
 
-ranges : (n s m k : ℕ) → s + m ≤ n → n ≤ most_inversion → k < 6 → Ranges n s m k
+pub ranges : (n s m k : ℕ) → s + m ≤ n → n ≤ most_inversion → k < 6 → Ranges n s m k
 unfolding most_inversion
 ranges n s m k w l h = record { small = apart m k 6 h; large = apart n k 6 h; within = w; most = l }
 

@@ -28,8 +28,8 @@ pub(crate) fn load(b: &[u8]) -> Block
     [rows[0], rows[1], rows[2], rows[3]]
 }
 
-// Sixteen bytes from the rows, one by one: of rows that are copied whole the compiler makes a change of order that takes six times as long in
-// a program that calls little else.
+// Sixteen bytes from the rows, one by one: of rows that are copied whole the compiler makes a change of order that takes four to seven times as
+// long in a program that calls little else.
 fn store(b: &mut [u8], s: Block)
     requires { length b.old ≡ block_bytes }
     ensures { b.new ≡ bytes_of s }

@@ -1,16 +1,21 @@
 -- The answer to the need question from its number: a count where it is 0, and otherwise the refusal that has the number. Assumes nothing.
-use Prim.Native.Nat.{ℕ}
-use mathlib.Core.Path.{◌≡◌}
+use Prim.Native.Nat.{ℕ, ◌<◌}
+use mathlib.Core.Path.{◌≡◌, refl}
 use mathlib.Core.Bool.{false}
 use lib.Dec.{eqb}
 use borrow.Author.Tests.{eq-eqb, ne_eqb}
 use Rattle.std.specs.Prelude.{Ok, Err}
-use Rattle.rep3.specs.Answers.{refusal_number}
+use Rattle.rep3.specs.Answers.{Answer, refusal_number, number_of}
 use Rattle.rep3.specs.declared.Refusal.{Refusal}
-use Rattle.rep3.proofs.Refusals.{no_zero}
+use Rattle.rep3.proofs.Refusals.{refusal, no_zero}
 use Rattle.rep3.proofs.Determined.{refusal-back}
 use Rattle.needs.specs.Needs.{need_of, need_number}
 use Rattle.needs.specs.Needed.{needed_of}
+
+-- the number of a refusal is not 0
+pub above_zero : (a : Answer) → (a ≡ Ok tt → ⊥) → 0 < number_of a
+above_zero (Ok x) h = absurd (h refl)
+above_zero (Err r) h = refusal r
 
 module _ (kind variant blocks : ℕ) where
   pub counted : (n : ℕ) → need_number kind variant blocks ≡ 0 → n ≡ need_of kind variant blocks → Ok n ≡ needed_of kind variant blocks

@@ -65,9 +65,12 @@ pub struct RssShare {
     pub sii: u8,
 }
 
+// The share of a constant, or the refusal.
+pub type SharedConstant = Result<RssShare, Refusal>;
+
 // A party's share of a constant that all know: s0 is the constant, and s1 and s2 are 0. The party is a number, and any number has its answer.
 #[tactic(auto, using(std::proofs::lemmas::Bool::Decides::nat_tests), unfolding(crate::specs::Shares::constant_of))]
-pub fn constant(party: u32, value: u8) -> Result<RssShare, Refusal>
+pub fn constant(party: u32, value: u8) -> SharedConstant
     ensures { result ≡ constant_of party value }
 {
     match party {

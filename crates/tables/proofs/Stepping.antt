@@ -21,7 +21,7 @@ use Rattle.tables.specs.Fits.{PartFits, TableFits}
 abbrev pub Stepped : Answer → List ℕ → List ℕ → Type 0
 Stepped a new out = (a ≡ Ok tt) × (out ≡ new)
 
--- and the other way, as a run's promise has it
+-- what is done meets the promise of a step
 pub done-is : (a : Answer) (new old out : List ℕ) → number_of a ≡ 0 → out ≡ new → out ≡ when_done (number_of a) new old
 done-is a new old out z e = e ∙ sym (ap (λ (n : ℕ). when_done n new old) z)
 

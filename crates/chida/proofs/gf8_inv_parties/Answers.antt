@@ -1,5 +1,5 @@
 -- `chida::gf8_inv_parties` meets its contract. Assumes nothing.
-use Rattle.std.proofs.Common.{sym}
+use Rattle.std.proofs.Common.{sym, arith}
 use Rattle.joint.specs.Joint.{space_size}
 use Rattle.chida.proofs.Turns.{turn_of, turns_start, turns_end}
 use Rattle.chida.proofs.InversionLayer.{parties_fit, inverted_start, inverted-more, inverted_end, inverted-long}
@@ -13,8 +13,10 @@ loop-k-init c =
 pub invariant_of-at : goal.invariant_of-at
 unfolding space_size
 invariant_of-at c =
-    let t = turn_of _ c.loop-k.k _ _ c.div_ceil-k-end.ensures c.loop-k-test.true c.min.ensures in
-    record { space = t.few; within = t.within; most = c.loop-k.invariant.0.most }
+    let m = c.min.ensures in
+    let e = c.div_ceil-k-end.ensures in
+    let h = c.loop-k-test.true in
+    record { space = omega arith; within = omega arith; most = c.loop-k.invariant.0.most }
 
 pub invert_positions-step-requires : goal.invert_positions-step-requires
 invert_positions-step-requires c =
