@@ -34,6 +34,7 @@ fn mul_check(ci: usize, ai: usize, aii: usize, bi: usize, bii: usize, alphas: us
 }
 
 // The first half of a product: what a party computes of its shares, keeps as its si, and sends to the previous party.
+#[tactic(auto, using(crate::proofs::Filled::filled_more))]
 pub fn mul_first_half(
     ci: &mut [u8],
     ai: &[u8],
