@@ -1,11 +1,11 @@
 -- What the steps of an inversion need and leave: lengths that fit, and the chain from its powers. Assumes nothing.
 use Prim.Native.Nat.{ℕ, ◌+◌, ◌-◌, ◌*◌, ◌/◌, ◌≤◌}
-use native.Mathlib.Nat.{zero-mul, one-mul, zero-add, sub-zero}
+use native.Mathlib.Nat.{zero-mul, one-mul, zero-add}
 use native.Mathlib.Omega.{arith}
 use mathlib.Core.Path.{◌≡◌, sym, ap, ◌∙◌}
 use mathlib.Core.List.{List, map}
 use lib.ListN.{length, take}
-use lib.Seq.{length-take-le}
+use Rattle.lists.proofs.Puts.{part-long}
 use Rattle.rep3.proofs.Refusals.{step-done}
 use Rattle.std.proofs.lemmas.Bool.Decides.{nat_tests}
 use Rattle.fips197.specs.Field.{square}
@@ -101,7 +101,7 @@ fits-chain m x a0 a1 a2 n s e f = (grind (arith, nat_tests), grind (arith, nat_t
 -- the first x bytes of a table of as many positions as are inverted at a time
 pub table_front : (x m : ℕ) (o : List ℕ) → x ≡ 6 * m → length o ≡ 1536 → m ≤ space_size → length (take (x - 0) o) ≡ 6 * m
 unfolding space_size
-table_front x m o e l h = rw sub-zero (length-take-le x o (omega (arith, l)) ∙ e)
+table_front x m o e l h = part-long (6 * m) 0 x o (omega (arith, e)) (omega (arith, l))
 
 -- such an inversion is not refused
 pub inverted : (m n s : ℕ) (r : Answer) (x a0 a1 a2 new : List ℕ) → length x ≡ 6 * m → Counted n s m (length a0) (length a1) (length a2)

@@ -5,10 +5,11 @@ use native.Mathlib.Omega.{arith}
 use mathlib.Core.Path.{◌≡◌, sym, ap, ◌∙◌}
 use mathlib.Core.List.{List, ◌++◌}
 use Rattle.std.proofs.lemmas.Bool.Decides.{nat_tests}
-use lib.ListN.{length, take, drop, length-append, length-drop}
-use lib.Seq.{take_at, length-take-le}
+use lib.ListN.{length, take, drop}
+use lib.Seq.{take_at}
 use Rattle.lists.specs.Lists.{chunk}
 use Rattle.lists.proofs.Tabs.{length-tab}
+use Rattle.lists.proofs.Puts.{part-long as lent-long, put-long}
 use Rattle.lists.proofs.Joined.{Each, chunk-joined, length-joined, joined_cong, by_chunks}
 use Rattle.rep3.specs.Tables.{six_parts, si_part, sii_part, share_of}
 use Rattle.halves.specs.Product.{first_half, sent, product_of}
@@ -28,19 +29,19 @@ pub box_read : (n : ℕ) (ys o : List ℕ) → length ys ≡ n → length (take 
 box_read n ys o l = ap length (box_front n ys o l) ∙ l
 
 pub box-long : (n : ℕ) (ys o : List ℕ) → length ys ≡ n → length o ≡ space_size → n ≤ space_size → length (ys ++ drop (n - 0) o) ≡ space_size
-box-long n ys o l e h = length-append ys (drop (n - 0) o) ∙ omega (arith, length-drop (n - 0) o)
+box-long n ys o l e h = put-long 0 n o ys (omega arith) (omega (arith, e)) (omega (arith, l)) ∙ e
 
 pub box-part : (n : ℕ) (o : List ℕ) → length o ≡ space_size → n ≤ space_size → length (take (n - 0) o) ≡ n
-box-part n o l h = rw sub-zero (length-take-le n o (omega (arith, l)))
+box-part n o l h = lent-long n 0 n o (omega arith) (omega (arith, l))
 
 -- the same of a table of six parts
 
 pub table-part : (m : ℕ) (o : List ℕ) → length o ≡ 6 * space_size → m ≤ space_size → length (take (6 * m - 0) o) ≡ 6 * m
-table-part m o l h = rw sub-zero (length-take-le (6 * m) o (omega (arith, l)))
+table-part m o l h = lent-long (6 * m) 0 (6 * m) o (omega arith) (omega (arith, l))
 
 pub table-long : (m : ℕ) (ys o : List ℕ) → length ys ≡ 6 * m → length o ≡ 6 * space_size → m ≤ space_size
     → length (ys ++ drop (6 * m - 0) o) ≡ 6 * space_size
-table-long m ys o l e h = length-append ys (drop (6 * m - 0) o) ∙ omega (arith, length-drop (6 * m - 0) o)
+table-long m ys o l e h = put-long 0 (6 * m) o ys (omega arith) (omega (arith, e)) (omega (arith, l)) ∙ e
 
 -- ---- what belongs to one of three parties, and to one of six parts
 

@@ -10,12 +10,13 @@ use Rattle.lists.specs.Lists.{chunk}
 use Rattle.fips197.specs.Field.{◌⊕◌}
 use Rattle.fips197.specs.State.{◌⊞◌, Bytes, at, state_of, mix_columns, inv_mix_columns, add_round_key}
 use Rattle.fips197.proofs.States.{length-state_of, state_of-rows, state_of-at}
+use Rattle.layers.specs.Layers.{block_bytes}
 use Rattle.layers.specs.Rows.{row_of, byte_of, row, row_by, mixed_byte, inv_mixed_byte, bytes_of}
 use Rattle.layers.proofs.MixedBytes.{column_by, mixed_state, inv_mixed_state}
 
 -- ---- from and to sixteen bytes
 
-pub length-bytes_of : (s : List (List ℕ)) → length (bytes_of s) ≡ 16
+pub length-bytes_of : (s : List (List ℕ)) → length (bytes_of s) ≡ block_bytes
 unfolding bytes_of
 length-bytes_of s = length-state_of _
 

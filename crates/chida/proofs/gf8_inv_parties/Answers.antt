@@ -10,6 +10,7 @@ loop-k-init c =
     let f = parties_fit _ _ _ _ (sym c.in_ok-parties_check.ensures) in
     (f, rw (turns_start _) (inverted_start _ _ _ f.table))
 
+-- by arithmetic, and not by turn_of, which is of turns of 256: positions of other turns would fit as well, and what refuses them is the loop
 pub invariant_of-at : goal.invariant_of-at
 unfolding space_size
 invariant_of-at c =
